@@ -1,0 +1,20 @@
+-- Laws of the rounded quotient.
+use mathlib.Core.Path.{_≡_, refl, sym, ap, _∙_}
+use Prim.Native.Nat.{ℕ, suc, _+_, _*_, _/_, _%_, _≤_, _<_}
+use native.Mathlib.Nat.{mul-pos, mul-left-comm, suc-mul, le-of-suc-le-suc, div-lt-iff-lt-mul, div-eq-of-lt-le}
+use native.Mathlib.Omega.{arith}
+use lib.Dec.{lit<}
+use Rattle.arith.specs.Rounding.{nearestQuotient}
+
+-- the only k with k − 1 / 2 ≤ a / b < k + 1 / 2
+pub nearest-unique : (a b k : ℕ) → 0 < b → 2 * (k * b) ≤ 2 * a + b → 2 * a + b < 2 * (k * b) + 2 * b → nearestQuotient a b ≡ k
+nearest-unique a b k pos low high =
+    let e : k * (2 * b) ≡ 2 * (k * b) = mul-left-comm k 2 b in
+    let f : (k + 1) * (2 * b) ≡ 2 * (k * b) + 2 * b = omega arith in
+    div-eq-of-lt-le (2 * b) (omega arith) (omega arith)
+
+-- a bound on the quotient is a bound on the rounded quotient
+pub nearest-le : (a b q : ℕ) → 0 < b → a ≤ q * b → nearestQuotient a b ≤ q
+nearest-le a b q pos h =
+    let e : suc q * (2 * b) ≡ 2 * (q * b) + 2 * b = suc-mul q (2 * b) ∙ ap (λ (x : ℕ). x + 2 * b) (mul-left-comm q 2 b) in
+    le-of-suc-le-suc (div-lt-iff-lt-mul (mul-pos (lit< tt) pos) .1 (omega arith))

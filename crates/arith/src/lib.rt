@@ -1,0 +1,44 @@
+// Whole-number arithmetic: the rounded quotient and the square root.
+ghost use mathlib.Core.Path.{_≡_};
+ghost use Prim.Native.Nat.{_+_, _*_, _≤_, _<_};
+ghost use Rattle.arith.specs.Rounding.{nearestQuotient};
+ghost use Rattle.arith.specs.Root.{root};
+
+// a / b to the nearest whole number, halves up. The remainder decides, so that nothing can overflow.
+pub fn nearest_quotient(a: u64, b: u64) -> u64
+    requires { ⌜ 0 < b ⌝ }
+    ensures { λ r. ⌜ r ≡ nearestQuotient a b ⌝ }
+{
+    let quotient = a / b;
+    let remainder = a % b;
+    if b - remainder <= remainder {
+        quotient + 1
+    } else {
+        quotient
+    }
+}
+
+// A number that is not below the root of n: about Newton's step from the power of two near it. Which one decides only the time.
+fn first_guess(n: u64) -> u64
+    requires { ⌜ 1 ≤ n ⌝ }
+    ensures { λ r. ⌜ n < (r + 1) * (r + 1) ⌝ }
+{
+    let half_bits = (64 - u64::leading_zeros(n)) / 2;
+    (1u64 << half_bits) / 2 + (n >> half_bits) / 2 + 1
+}
+
+// The largest whole number whose square is at most n, by Newton's steps down from a first guess.
+pub fn integer_root(n: u64) -> u32
+    ensures { λ r. ⌜ r ≡ root n ⌝ }
+{
+    if n < 1 {
+        return 0;
+    }
+    let mut guess = first_guess(n);
+    let mut quotient = n / guess;
+    while quotient < guess {
+        guess = quotient + (guess - quotient) / 2;
+        quotient = n / guess;
+    }
+    guess as u32
+}

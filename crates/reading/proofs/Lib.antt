@@ -1,0 +1,5 @@
+pub mod Range
+pub mod Product
+pub mod Halves
+pub mod Checks
+pub mod Rules

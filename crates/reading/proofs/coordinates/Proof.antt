@@ -1,0 +1,42 @@
+-- `coordinates` meets its contract: its two tests are those of `checked`, over the whole reading.
+use borrow.Author.Needs.{needs}
+use mathlib.Core.Path.{_≡_}
+use mathlib.Core.Bool.{true, _&&_}
+use lib.Dec.{lit<, lit≤}
+use Rattle.reading.specs.Whole.{coordinate, finite, inRange}
+use Rattle.reading.specs.Convert.{ofCoordinates}
+use Rattle.reading.proofs.Checks.{join, negated, passed}
+use Rattle.reading.proofs.coordinates.Statement.{statement}
+use Rattle.reading.proofs.coordinates.Tie as tie
+
+-- what the two tests have shown
+all-finite : (c : tie.Else1) → let a = c .before .before .before .args in finite (a .x) && finite (a .y) ≡ true
+all-finite c = negated (join (c .before .before .is-finite .ensures) (c .before .is-finite2 .ensures)) (c .if1 .left)
+
+all-in-range : (c : tie.Else2) → let a = c .before .before .before .before .before .before .args in (inRange coordinate (a .x) ≡ true) × (inRange coordinate (a .y) ≡ true)
+all-in-range c = passed (c .before .before .is-in-range .ensures) (c .before .is-in-range2 .ensures) (c .if2 .left)
+
+returns : tie.Need-returns
+unfolding ofCoordinates
+returns c = rw (negated (join (c .before .before .is-finite .ensures) (c .before .is-finite2 .ensures)) (c .if1 .taken))
+
+returns-2 : tie.Need-returns-2
+unfolding ofCoordinates
+returns-2 c = rw (all-finite (c .before .before .before), negated (join (c .before .before .is-in-range .ensures) (c .before .is-in-range2 .ensures)) (c .if2 .taken))
+
+to-whole-requires : tie.Need-to-whole-requires
+to-whole-requires c κs = (lit≤ tt, (lit< tt, all-in-range c .0))
+
+to-whole-requires-2 : tie.Need-to-whole-requires-2
+to-whole-requires-2 c κs = (lit≤ tt, (lit< tt, all-in-range (c .before) .1))
+
+returns-3 : tie.Need-returns-3
+unfolding ofCoordinates
+returns-3 c = let g = all-in-range (c .before .before) in rw (all-finite (c .before .before .before .before .before), g .0, g .1) (cc)
+
+pub coordinates-spec : {M : Type 1} → statement M
+coordinates-spec =
+    tie.close
+    (tie.spec (λ c κs. search needs) (λ c κs. search needs) returns
+    (λ c κs. search needs) (λ c κs. search needs) returns-2
+    to-whole-requires to-whole-requires-2 returns-3)

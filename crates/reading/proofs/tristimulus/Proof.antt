@@ -1,0 +1,58 @@
+-- `tristimulus` meets its contract: its three tests are refusals 2, 3 and 4 of the definition, in that order.
+use borrow.Author.Needs.{needs}
+use borrow.Author.Tests.{lt-ltb, le-ltb}
+use mathlib.Core.Path.{_≡_}
+use mathlib.Core.Bool.{true, _&&_}
+use native.Mathlib.Omega.{arith}
+use Prim.Native.Nat.{_≤_, _<_}
+use lib.Dec.{lit<, lit≤}
+use Rattle.reading.specs.Whole.{tristimulus, finite, inRange, toWhole}
+use Rattle.reading.specs.Convert.{leastY, ofTristimulus}
+use Rattle.reading.proofs.Checks.{join, negated, passed3}
+use Rattle.reading.proofs.tristimulus.Statement.{statement}
+use Rattle.reading.proofs.tristimulus.Tie as tie
+
+-- what the first two tests have shown
+all-finite : (c : tie.Else1) → let a = c .before .before .before .before .args in finite (a .x) && finite (a .y) && finite (a .z) ≡ true
+all-finite c = negated (join (join (c .before .before .before .is-finite .ensures) (c .before .before .is-finite2 .ensures)) (c .before .is-finite3 .ensures)) (c .if1 .left)
+
+all-in-range : (c : tie.Else2) → let a = c .before .before .before .before .before .before .before .before .args in (inRange tristimulus (a .x) ≡ true) × (inRange tristimulus (a .y) ≡ true) × (inRange tristimulus (a .z) ≡ true)
+all-in-range c = passed3 (c .before .before .before .is-in-range .ensures) (c .before .before .is-in-range2 .ensures) (c .before .is-in-range3 .ensures) (c .if2 .left)
+
+returns : tie.Need-returns
+unfolding ofTristimulus
+returns c = rw (negated (join (join (c .before .before .before .is-finite .ensures) (c .before .before .is-finite2 .ensures)) (c .before .is-finite3 .ensures)) (c .if1 .taken))
+
+returns-2 : tie.Need-returns-2
+unfolding ofTristimulus
+returns-2 c = rw (all-finite (c .before .before .before .before), negated (join (join (c .before .before .before .is-in-range .ensures) (c .before .before .is-in-range2 .ensures)) (c .before .is-in-range3 .ensures)) (c .if2 .taken))
+
+to-whole-requires : tie.Need-to-whole-requires
+to-whole-requires c κs = (lit≤ tt, (lit< tt, all-in-range c .1))
+
+returns-3 : tie.Need-returns-3
+unfolding ofTristimulus
+returns-3 c =
+    let g = all-in-range (c .before .before) in
+    let dark : toWhole tristimulus (c .before .before .before .before .before .before .before .before .before .before .args .y) < leastY = omega arith in
+    rw (all-finite (c .before .before .before .before .before .before), g .0, g .1, g .2, lt-ltb _ _ dark)
+
+to-whole-requires-2 : tie.Need-to-whole-requires-2
+to-whole-requires-2 c κs = (lit≤ tt, (lit< tt, all-in-range (c .before .before) .0))
+
+to-whole-requires-3 : tie.Need-to-whole-requires-3
+to-whole-requires-3 c κs = (lit≤ tt, (lit< tt, all-in-range (c .before .before .before) .2))
+
+returns-4 : tie.Need-returns-4
+unfolding ofTristimulus
+returns-4 c =
+    let g = all-in-range (c .before .before .before .before .before) in
+    let light : leastY ≤ toWhole tristimulus (c .before .before .before .before .before .before .before .before .before .before .before .before .before .args .y) = omega arith in
+    rw (all-finite (c .before .before .before .before .before .before .before .before .before), g .0, g .1, g .2, le-ltb _ _ light) (cc)
+
+pub tristimulus-spec : {M : Type 1} → statement M
+tristimulus-spec =
+    tie.close
+    (tie.spec (λ c κs. search needs) (λ c κs. search needs) (λ c κs. search needs) returns
+    (λ c κs. search needs) (λ c κs. search needs) (λ c κs. search needs) returns-2
+    to-whole-requires returns-3 to-whole-requires-2 to-whole-requires-3 (λ c κs. search needs) returns-4)

@@ -1,0 +1,39 @@
+// The refusals of document 01, "Numbers given instead of an answer", each under a name.
+ghost use mathlib.Core.Path.{_≡_};
+ghost use Rattle.refusal.specs.Number.{numberOf};
+
+pub enum Refusal {
+    // The list of class edges breaks its rule.
+    BadEdges,
+    // A float is infinite or not a number.
+    NotFinite,
+    // A number is outside its range.
+    OutOfRange,
+    // Tristimulus values whose Y is too small.
+    TooDark,
+    // The nearest stored entry is farther than the limit.
+    TooFar,
+    // Past the first entry, at 20,000 K.
+    TooHot,
+    // Past the last entry, at 1600 K.
+    TooCool,
+    // A line of text that cannot be read.
+    Unreadable,
+}
+
+impl Refusal {
+    pub fn number(self) -> u8
+        ensures { λ r. ⌜ r ≡ numberOf self ⌝ }
+    {
+        match self {
+            Refusal::BadEdges => 1,
+            Refusal::NotFinite => 2,
+            Refusal::OutOfRange => 3,
+            Refusal::TooDark => 4,
+            Refusal::TooFar => 5,
+            Refusal::TooHot => 6,
+            Refusal::TooCool => 7,
+            Refusal::Unreadable => 8,
+        }
+    }
+}

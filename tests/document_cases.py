@@ -1,0 +1,91 @@
+"""Document 01's own cases, typed in from the document and never from a program's output: the listing, the (P) cases
+and the "Also run" list. `check()` holds the reference to all of them."""
+
+from fractions import Fraction
+
+import reference as ref
+from floats import QUIET_NAN, nearest_f32
+
+LISTING = (
+    ("255910 349510 0", "0 36176 33592 38760 0 0 1"),
+    ("219300 327100 0", "0 23256 20672 25840 -2347 0 -"),
+    ("219300 327100 2", "0 23112 21892 23866 -2311 2 2"),
+    ("341150 360520 0", "0 62626 59432 64600 2069 0 0"),
+    ("345070 330530 0", "0 64600 62016 64600 -30000 0 0"),
+    ("345070 330529 0", "5"),
+    ("183000 276000", "6"),
+    ("346000 360540", "7"),
+    ("0 0", "5"),
+    ("12 x", "8"),
+)
+
+# Decimal coordinates of the document are exact in binary here, so their nearest f32 is the value itself.
+CONVERSIONS = (
+    ("uv", ("1/128", "0"), (7813, 0)),
+    ("xyz", ("100", "100", "100"), (210526, 315789)),
+    ("xy", ("1/4", "1/4"), (181818, 272727)),
+    ("uvp", ("1/4", "1/2"), (250000, 333333)),
+    ("uv", ("1/2097152", "0"), (0, 0)),
+    ("uv", ("1/1048576", "0"), (1, 0)),
+)
+
+GOOD_EDGES = (1600, 20001)
+LARGEST_U32 = 2**32 - 1
+
+REFUSALS = (
+    ("uv", ("1", "0"), GOOD_EDGES, 3),
+    ("uv", ("2", "nan"), GOOD_EDGES, 2),
+    ("xyz", ("4096", "1", "1"), GOOD_EDGES, 3),
+    ("xyz", ("1", "0", "1"), GOOD_EDGES, 4),
+    ("uv", ("1/4", "1/4"), (5000,), 1),
+    ("uv", ("1/4", "1/4"), (5000, 5000), 1),
+)
+
+
+def bits(text):
+    """The f32 bits of a fraction written as text, or of a NaN."""
+    return QUIET_NAN if text == "nan" else nearest_f32(Fraction(text))
+
+
+def check_conversions():
+    for kind, args, expected in CONVERSIONS:
+        found = ref.CONVERSIONS[kind](*map(bits, args))
+        assert found == expected, (kind, args, expected, found)
+    assert ref.whole_number(bits("1/64"), 100_000) == 1563
+
+
+def check_listing():
+    for line, expected in LISTING:
+        found = ref.answer_line(line.encode()).decode()
+        assert found == expected, (line, expected, found)
+
+
+def check_refusals():
+    for kind, args, edges, expected in REFUSALS:
+        found = ref.answer(kind, tuple(map(bits, args)), edges, 14)
+        assert found == ref.Answer(expected), (kind, args, edges, expected, found)
+
+
+def check_allowances():
+    """Allowances 13, 14, 15 and the largest: the count is the smaller of the allowance and 14."""
+    given = [ref.answer("whole", (219300, 327100), GOOD_EDGES, n) for n in (13, 14, 15, LARGEST_U32)]
+    assert [a.steps for a in given] == [13, 14, 14, 14]
+    assert [a.high - a.low for a in given] == [2 * 5, 2 * 3, 2 * 3, 2 * 3]
+    assert given[1] == given[2] == given[3]
+
+
+def check_stored_locus():
+    """Mired and notches agree, the ends are 20,000 K and 1600 K, and F(18) is an entry's share of notches."""
+    assert all(Fraction(ref.entry_place(i) * 25, 2584) == ref.MIREDS[i - 1] for i in ref.ENTRIES)
+    assert (ref.entry_place(1), ref.entry_place(24)) == (ref.FIRST_PLACE, ref.LAST_PLACE)
+    assert Fraction(ref.KELVIN_PLACES, ref.FIRST_PLACE) == 20000 and Fraction(ref.KELVIN_PLACES, ref.LAST_PLACE) == 1600
+    assert ref.FIBONACCI[1] == ref.FIBONACCI[2] == 1 and ref.FIBONACCI[18] == ref.PIECE
+    assert all(ref.locus_point(ref.entry_place(i)) == ref.entry_point(i) for i in ref.ENTRIES)
+
+
+def check():
+    check_conversions()
+    check_listing()
+    check_refusals()
+    check_allowances()
+    check_stored_locus()

@@ -1,0 +1,181 @@
+"""Readings in whole micro that are hard for the search and its refusals, and the same readings as floats of each kind."""
+
+from fractions import Fraction
+from math import gcd, isqrt
+
+import reference as ref
+from floats import nearest_f32
+
+LIMIT_RADIUS = 30_000
+
+
+def is_admitted(reading):
+    try:
+        return min(reading) >= 0 and bool(ref.admit(reading))
+    except ref.Refused:
+        return False
+
+
+def near_locus(dice, spread):
+    """A reading within `spread` micro of a random place in u and in v."""
+    u, v = ref.locus_point(dice.between(ref.FIRST_PLACE, ref.LAST_PLACE))
+    return u + dice.between(-spread, spread), v + dice.between(-spread, spread)
+
+
+def admitted(dice, spread=21_000):
+    """A reading that refusals 5 to 7 let through."""
+    while True:
+        reading = near_locus(dice, dice.pick((0, 3, 50, 1000, spread)))
+        if is_admitted(reading):
+            return reading
+
+
+def squares_summing_to(total):
+    """Every (du, dv) with du^2 + dv^2 = total."""
+    found = set()
+    for a in range(isqrt(total) + 1):
+        b = isqrt(total - a * a)
+        if a * a + b * b == total:
+            found |= {(a, b), (-a, b), (a, -b), (-a, -b)}
+    return sorted(found)
+
+
+def at_the_limit():
+    """Readings at squared distance exactly 900,000,000 (taken) and 900,000,001 = 30,000^2 + 1 (refused) from entry m."""
+    offsets = squares_summing_to(ref.FARTHEST) + squares_summing_to(ref.FARTHEST + 1)
+    for i in ref.ENTRIES:
+        u, v = ref.entry_point(i)
+        for du, dv in offsets:
+            if ref.nearest_entry((u + du, v + dv)) == i:
+                yield u + du, v + dv
+
+
+def on_line(a, b, c, near):
+    """A whole point with a*x + b*y = c close to `near`, or None where the line has none."""
+    g = gcd(a, b)
+    if g == 0 or c % g:
+        return None
+    a, b, c = a // g, b // g, c // g
+    x = c * pow(a, -1, abs(b)) if abs(b) > 1 else 0
+    if b == 0:
+        return c // a, near[1]
+    k = round(Fraction(near[0] - x, b))
+    x += k * b
+    return x, (c - a * x) // b
+
+
+def behind_an_end(m, other, steps):
+    """Readings about entry m whose dot with the direction to entry `other` is the last below 0, 0, or the first above."""
+    corner, end = ref.entry_point(m), ref.entry_point(other)
+    du, dv = end[0] - corner[0], end[1] - corner[1]
+    unit = gcd(du, dv)
+    length = isqrt(du * du + dv * dv)
+    for sign in (-1, 0, 1):
+        for k in range(-steps, steps + 1):
+            along = (-dv * LIMIT_RADIUS * k // (steps * length), du * LIMIT_RADIUS * k // (steps * length))
+            offset = on_line(du, dv, sign * unit, along)
+            reading = corner[0] + offset[0], corner[1] + offset[1]
+            if ref.nearest_entry(reading) == m:
+                assert ref.dot(reading, corner, end) == sign * unit
+                yield reading
+
+
+def equally_far(p, q, near):
+    """A whole point as far from p as from q, close to `near`, or None."""
+    a, b = 2 * (q[0] - p[0]), 2 * (q[1] - p[1])
+    return on_line(a, b, q[0] ** 2 + q[1] ** 2 - p[0] ** 2 - p[1] ** 2, near)
+
+
+def entry_ties(dice, count):
+    """Readings equally far from their two nearest entries: the lower entry wins."""
+    found = []
+    while len(found) < count:
+        i = dice.between(1, 23)
+        p, q = ref.entry_point(i), ref.entry_point(i + 1)
+        near = p[0] + dice.between(-20_000, 20_000), p[1] + dice.between(-25_000, 25_000)
+        reading = equally_far(p, q, near)
+        if reading and min(reading) >= 0:
+            far = sorted(ref.squared_distance(reading, ref.entry_point(k)) for k in ref.ENTRIES)
+            if far[0] == far[1] <= 2 * ref.FARTHEST:
+                found.append(reading)
+    return found
+
+
+def comparisons(reading):
+    """The inner points (a, b) that each of the 14 steps compares."""
+    g = ref.starting_bracket(ref.nearest_entry(reading))[2]
+    return [ref.inner_points(state.low, g, j) for j, state in enumerate(ref.search_states(reading))][:ref.MOST_STEPS]
+
+
+def looks(reading):
+    """Each point looked at, with the nearest point seen before it."""
+    states = ref.search_states(reading)
+    m = ref.entry_place(ref.nearest_entry(reading))
+    pairs = comparisons(reading)
+    a, b = pairs[0]
+    found = [(a, m), (b, ref.nearer(reading, a, m))]
+    for j in range(1, ref.MOST_STEPS):
+        found += [(point, states[j - 1].best) for point in pairs[j] if point not in pairs[j - 1]]
+    return found
+
+
+def has_tie(reading, pairs):
+    """Whether two of the compared places are equally far and not the same place."""
+    return any(p != q and ref.distance_at(reading, p) == ref.distance_at(reading, q) for p, q in pairs(reading))
+
+
+def search_ties(dice, pairs, count):
+    """Readings moved onto the line of equal distance between two places that the search compares."""
+    found = []
+    while len(found) < count:
+        reading = admitted(dice)
+        p, q = dice.pick(pairs(reading))
+        moved = equally_far(ref.locus_point(p), ref.locus_point(q), reading)
+        if moved and is_admitted(moved) and has_tie(moved, pairs):
+            found.append(moved)
+    return found
+
+
+def square_to_an_entry(dice):
+    """A reading nearly square to the locus at an entry, where two straight pieces meet at an angle."""
+    i = dice.between(2, 23)
+    (u, v), before, after = ref.entry_point(i), ref.entry_point(i - 1), ref.entry_point(i + 1)
+    du, dv = after[0] - before[0], after[1] - before[1]
+    out, along = dice.between(-29_000, 29_000), dice.between(-60, 60)
+    length = isqrt(du * du + dv * dv)
+    return u + (along * du - out * dv) // length, v + (along * dv + out * du) // length
+
+
+def best_outside(dice, count):
+    """Readings whose nearest point seen leaves the bracket during the search."""
+    found = []
+    while len(found) < count:
+        reading = square_to_an_entry(dice)
+        if is_admitted(reading) and any(not s.low <= s.best <= s.high for s in ref.search_states(reading)):
+            found.append(reading)
+    return found
+
+
+# --- The same reading as floats ---------------------------------------------------------------------------------------
+
+
+def as_uv(u, v):
+    return [nearest_f32(Fraction(u, ref.MICRO)), nearest_f32(Fraction(v, ref.MICRO))]
+
+
+def as_uvp(u, v):
+    return as_uv(u, (3 * v + 1) // 2)
+
+
+def as_xy(u, v):
+    n = 2 * u - 8 * v + 4 * ref.MICRO
+    return [nearest_f32(Fraction(3 * u, n)), nearest_f32(Fraction(2 * v, n))]
+
+
+def as_xyz(u, v, brightness=100):
+    v = max(v, 1)
+    x, z = Fraction(3 * u, 2 * v), Fraction(4 * ref.MICRO - u - 10 * v, 2 * v)
+    return [nearest_f32(part * brightness) for part in (x, 1, z)]
+
+
+AS_FLOATS = {"uv": as_uv, "uvp": as_uvp, "xy": as_xy, "xyz": as_xyz}
