@@ -1,54 +1,28 @@
 // One test vector: the command word, the numbers after it, and the answer.
+use crate::conversions;
 use crate::fields;
-use crate::put;
-use reading::Converted;
-use reading::Reading;
-use refusal::Refusal;
+use crate::parts;
 
 // The command words, by their ASCII bytes.
-const UV: u64 = 0x7576;
+const POINT: u64 = 0x706f696e74;
 
-const UVP: u64 = 0x757670;
+const ENTRY: u64 = 0x656e747279;
 
-const XY: u64 = 0x7879;
+const SEARCH: u64 = 0x736561726368;
 
-const XYZ: u64 = 0x78797a;
+const CLASS: u64 = 0x636c617373;
 
-// How many of a command's numbers are floats, given by their bits in hexadecimal.
-fn hex_fields(command: u64) -> usize {
+const EDGES: u64 = 0x6564676573;
+
+// A command of decimal numbers, or a conversion.
+fn run(command: u64, values: [u32; 64], count: usize, out: &mut [u8; 65536], at: usize) -> usize {
     match command {
-        UV | UVP | XY => 2,
-        XYZ => 3,
-        _ => 0,
-    }
-}
-
-// The float of a bit pattern; every NaN's pattern gives one NaN, since no NaN can be made from its bits.
-fn float(bits: u32) -> f32 {
-    if bits % 2147483648 > 2139095040 {
-        return 0.0 / 0.0;
-    }
-    f32::from_bits(bits)
-}
-
-// The reading that a command of four kinds names; any other command counts as xyz.
-fn reading_of(command: u64, a: u32, b: u32, c: u32) -> Reading {
-    match command {
-        UV => Reading::Uv(float(a), float(b)),
-        UVP => Reading::UvPrime(float(a), float(b)),
-        XY => Reading::Xy(float(a), float(b)),
-        _ => Reading::Xyz(float(a), float(b), float(c)),
-    }
-}
-
-fn put_converted(out: &mut [u8; 65536], at: usize, converted: Converted) -> usize {
-    match converted {
-        Converted::Point(u, v) => {
-            let first = put::number(out, at, 0);
-            let second = put::number(out, first, u as u64);
-            put::last(out, second, v as u64)
-        }
-        Converted::Refused(refusal) => put::last(out, at, Refusal::number(refusal) as u64),
+        POINT => parts::point(values[0], out, at),
+        ENTRY => parts::entry(values[0], values[1], out, at),
+        SEARCH => parts::search(values[0], values[1], values[2], out, at),
+        CLASS => parts::class(values, count, out, at),
+        EDGES => parts::edges(values, count, out, at),
+        _ => conversions::conversion(command, values, out, at),
     }
 }
 
@@ -58,13 +32,6 @@ pub(crate) fn answer_line(line: &[u8], out: &mut [u8; 65536], at: usize) -> usiz
     let end = fields::find(line, start, b' ');
     let command = fields::word(&line[start..end]);
     let mut values = [0u32; 64];
-    let _count = fields::numbers(&line[end..], hex_fields(command), &mut values);
-    if hex_fields(command) > 0 {
-        return put_converted(
-            out,
-            at,
-            reading::convert(reading_of(command, values[0], values[1], values[2])),
-        );
-    }
-    put_converted(out, at, reading::convert_whole(values[0], values[1]))
+    let count = fields::numbers(&line[end..], conversions::hex_fields(command), &mut values);
+    run(command, values, count, out, at)
 }

@@ -87,3 +87,17 @@ pub(crate) fn numbers(text: &[u8], hex_fields: usize, values: &mut [u32; 64]) ->
     }
     count
 }
+
+// Where the numbers from `start` on end: `count`, brought between `start` and 64.
+pub(crate) fn bounded(count: usize, start: usize) -> usize
+    requires { ⌜ start ≤ 64 ⌝ }
+    ensures { λ r. ⌜ (start ≤ r) × (r ≤ 64) ⌝ }
+{
+    if count < start {
+        return start;
+    }
+    if count > 64 {
+        return 64;
+    }
+    count
+}

@@ -1,6 +1,8 @@
 // Runs test vectors: one to a line of standard input, its answer to a line of standard output.
 mod commands;
+mod conversions;
 mod fields;
+mod parts;
 mod put;
 
 // How many bytes of a line are held, and how many bytes of output wait to be written.

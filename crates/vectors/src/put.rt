@@ -1,5 +1,6 @@
 // Appending to the output: each function takes where the output ends and answers where it then ends; what has no
 // room is dropped.
+use refusal::Refusal;
 
 const SPACE: u8 = b' ';
 
@@ -39,4 +40,9 @@ pub(crate) fn number(out: &mut [u8; 65536], at: usize, n: u64) -> usize {
 // The last number of a line.
 pub(crate) fn last(out: &mut [u8; 65536], at: usize, n: u64) -> usize {
     decimal(out, at, n, NEWLINE)
+}
+
+// The number of a refusal, alone on its line.
+pub(crate) fn refused(out: &mut [u8; 65536], at: usize, refusal: Refusal) -> usize {
+    last(out, at, Refusal::number(refusal) as u64)
 }

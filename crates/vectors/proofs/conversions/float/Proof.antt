@@ -4,8 +4,8 @@ use native.Mathlib.Omega.{arith}
 use lib.Dec.{ltb, ltb→lt, not-T}
 use lib.Ieee.Bits.{nanBits-above}
 use borrow.Author.Needs.{needs}
-use Rattle.vectors.proofs.commands.float.Statement.{statement}
-use Rattle.vectors.proofs.commands.float.Tie as tie
+use Rattle.vectors.proofs.conversions.float.Statement.{statement}
+use Rattle.vectors.proofs.conversions.float.Tie as tie
 
 returns : tie.Need-returns
 returns c = search needs

@@ -1,0 +1,4 @@
+pub mod Edges
+pub mod Classes
+pub mod EdgeLaws
+pub mod ClassLaws

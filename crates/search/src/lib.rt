@@ -1,0 +1,122 @@
+// Golden-section search for the place of the locus nearest to a reading (document 01, "The search", rules 2 to 6).
+ghost use mathlib.Core.Path.{_≡_};
+ghost use mathlib.Core.Bool.{cond};
+ghost use Prim.Native.Nat.{_≤_};
+ghost use lib.Dec.{ltb};
+ghost use Rattle.locus.specs.Locus.{distanceAt};
+ghost use Rattle.search.specs.Golden.{stepsOf};
+ghost use Rattle.search.specs.Progress.{found, Begins, Tracks, Lies, moved};
+
+// What a search has found: its bracket, its best point (document 01's "nearest point seen") and that point's squared distance.
+pub struct Search {
+    pub low: u32,
+    pub high: u32,
+    pub best: u32,
+    pub distance: u64,
+}
+
+// A search under way. The bracket starts at `low`; its inner points are `long` from its two ends and `short` from each other.
+// `left` and `right` are the distances at the inner points, `least` the distance at the best point.
+struct Progress {
+    low: u32,
+    long: u32,
+    short: u32,
+    left: u64,
+    right: u64,
+    best: u32,
+    least: u64,
+}
+
+// A choice between two distances without a branch.
+fn choose(first: bool, x: u64, y: u64) -> u64
+    ensures { λ r. ⌜ r ≡ cond first x y ⌝ }
+{
+    if first { x } else { y }
+}
+
+// A choice between two places without a branch.
+fn choose_place(first: bool, x: u32, y: u32) -> u32
+    ensures { λ r. ⌜ r ≡ cond first x y ⌝ }
+{
+    if first { x } else { y }
+}
+
+// The search before its first step: the best point is the entry, then the inner points are looked at (rules 2, 3 and 6).
+fn begin(span: locus::Span, u: u32, v: u32, entry: u32, distance: u64) -> Progress
+    requires { ⌜ Begins u v span entry distance ⌝ }
+    ensures { λ r. ⌜ Tracks (distanceAt u v) entry 0 r ⌝ }
+{
+    let pieces = (span.to - span.from) / 2584;
+    let long = 987 * pieces;
+    let short = 610 * pieces;
+    let inner_low = span.from + long;
+    let inner_high = inner_low + short;
+    let left = locus::distance_on(span, u, v, inner_low);
+    let right = locus::distance_on(span, u, v, inner_high);
+    let low_nearer = left < distance;
+    let best = choose_place(low_nearer, inner_low, 2584 * (entry + 1));
+    let least = choose(low_nearer, left, distance);
+    let high_nearer = right < least;
+    Progress {
+        low: span.from,
+        long: long,
+        short: short,
+        left: left,
+        right: right,
+        best: choose_place(high_nearer, inner_high, best),
+        least: choose(high_nearer, right, least),
+    }
+}
+
+// One step (rules 4 and 6). The new point of either way is evaluated before the choice: a branch on it would often be mispredicted.
+fn step(span: locus::Span, u: u32, v: u32, s: Progress) -> Progress
+    requires { ⌜ (u ≤ 4000000) × (v ≤ 4000000) × Lies span s ⌝ }
+    ensures { λ r. ⌜ r ≡ moved (ltb (s .left) (s .right)) (distanceAt u v) s ⌝ }
+{
+    let inner_low = s.low + s.long;
+    let new_low = s.low + s.short;
+    let new_high = inner_low + s.long;
+    let at_new_low = locus::distance_on(span, u, v, new_low);
+    let at_new_high = locus::distance_on(span, u, v, new_high);
+    let go_left = s.left < s.right;
+    let place = choose_place(go_left, new_low, new_high);
+    let distance = choose(go_left, at_new_low, at_new_high);
+    let nearer = distance < s.least;
+    let short = s.long - s.short;
+    Progress {
+        low: choose_place(go_left, s.low, inner_low),
+        long: s.short,
+        short: short,
+        left: choose(go_left, at_new_low, s.right),
+        right: choose(go_left, s.left, at_new_high),
+        best: choose_place(nearer, place, s.best),
+        least: choose(nearer, distance, s.least),
+    }
+}
+
+// The number of steps for an allowance (rule 5).
+pub fn steps_for(max_steps: u32) -> u32
+    ensures { λ r. ⌜ r ≡ stepsOf «max_steps» ⌝ }
+{
+    if max_steps < 14 { max_steps } else { 14 }
+}
+
+// The search about an entry, given the reading's distance from it (rules 2 to 6).
+pub fn run(span: locus::Span, u: u32, v: u32, entry: u32, distance: u64, steps: u32) -> Search
+    requires { ⌜ Begins u v span entry distance × (steps ≤ 14) ⌝ }
+    ensures { λ r. ⌜ r ≡ found (distanceAt u v) entry steps ⌝ }
+{
+    let mut s = begin(span, u, v, entry, distance);
+    let mut j: u32 = 0;
+    while j < steps {
+        s = step(span, u, v, s);
+        j += 1;
+    }
+    let high = s.low + 2 * s.long + s.short;
+    Search {
+        low: s.low,
+        high: high,
+        best: s.best,
+        distance: s.least,
+    }
+}

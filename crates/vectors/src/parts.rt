@@ -1,0 +1,91 @@
+// The parts of an answer: the locus, the nearest entry, the search and the classes.
+use crate::fields;
+use crate::put;
+use locus::Admission;
+use search::Search;
+ghost use Prim.Native.Nat.{_≤_};
+
+// A place of the locus: the number itself, or the nearer end.
+fn on_locus(place: u32) -> u32
+    ensures { λ r. ⌜ (5168 ≤ r) × (r ≤ 64600) ⌝ }
+{
+    if place < 5168 {
+        return 5168;
+    }
+    if place > 64600 {
+        return 64600;
+    }
+    place
+}
+
+// A coordinate within 4,000,000 micro.
+fn coordinate(x: u32) -> u32
+    ensures { λ r. ⌜ r ≤ 4000000 ⌝ }
+{
+    if x > 4000000 { 4000000 } else { x }
+}
+
+// `u v` of the locus at a place.
+pub(crate) fn point(place: u32, out: &mut [u8; 65536], at: usize) -> usize {
+    let us = locus::table_u();
+    let vs = locus::table_v();
+    let point = locus::point_at(&us, &vs, on_locus(place));
+    let first = put::number(out, at, point.u as u64);
+    put::last(out, first, point.v as u64)
+}
+
+// `m distance` of the nearest entry, or the refusal's number alone.
+pub(crate) fn entry(x: u32, y: u32, out: &mut [u8; 65536], at: usize) -> usize {
+    let us = locus::table_u();
+    let vs = locus::table_v();
+    match locus::admit(&us, &vs, coordinate(x), coordinate(y)) {
+        Admission::Near(m, distance) => {
+            let first = put::number(out, at, m as u64);
+            put::last(out, first, distance)
+        }
+        Admission::Refused(refusal) => put::refused(out, at, refusal),
+    }
+}
+
+// `low high best distance`.
+fn put_search(found: Search, out: &mut [u8; 65536], at: usize) -> usize {
+    let first = put::number(out, at, found.low as u64);
+    let second = put::number(out, first, found.high as u64);
+    let third = put::number(out, second, found.best as u64);
+    put::last(out, third, found.distance)
+}
+
+// The search about the nearest entry, or the refusal's number alone.
+pub(crate) fn search(x: u32, y: u32, steps: u32, out: &mut [u8; 65536], at: usize) -> usize {
+    let us = locus::table_u();
+    let vs = locus::table_v();
+    let u = coordinate(x);
+    let v = coordinate(y);
+    match locus::admit(&us, &vs, u, v) {
+        Admission::Near(m, distance) => {
+            let span = locus::span_about(&us, &vs, m);
+            put_search(
+                search::run(span, u, v, m, distance, search::steps_for(steps)),
+                out,
+                at,
+            )
+        }
+        Admission::Refused(refusal) => put::refused(out, at, refusal),
+    }
+}
+
+pub(crate) fn class(values: [u32; 64], count: usize, out: &mut [u8; 65536], at: usize) -> usize {
+    let low = values[0];
+    let high = values[1];
+    let best = values[2];
+    let start = 3;
+    let end = fields::bounded(count, start);
+    let class = classes::class_of(&values[start..end], low, high, best);
+    put::last(out, at, class as u64)
+}
+
+pub(crate) fn edges(values: [u32; 64], count: usize, out: &mut [u8; 65536], at: usize) -> usize {
+    let start = 0;
+    let end = fields::bounded(count, start);
+    put::last(out, at, classes::edges_valid(&values[start..end]) as u64)
+}
