@@ -21,7 +21,7 @@ import reference
 import text_cases
 
 ROOT = Path(__file__).resolve().parent.parent
-VECTOR_SECTIONS = (convert_cases, core_cases)  # in the order of the file
+VECTOR_SECTIONS = (convert_cases, core_cases, answer_cases)  # in the order of the file
 
 
 def vector_files():

@@ -3,4 +3,3 @@ pub mod WholeLaws
 pub mod Product
 pub mod Convert
 pub mod ConvertLaws
-pub mod ConversionCases

@@ -1,4 +1,5 @@
 // One test vector: the command word, the numbers after it, and the answer.
+use crate::answers;
 use crate::conversions;
 use crate::fields;
 use crate::parts;
@@ -14,6 +15,8 @@ const CLASS: u64 = 0x636c617373;
 
 const EDGES: u64 = 0x6564676573;
 
+const ANSWER: u64 = 0x616e73776572;
+
 // A command of decimal numbers, or a conversion.
 fn run(command: u64, values: [u32; 64], count: usize, out: &mut [u8; 65536], at: usize) -> usize {
     match command {
@@ -26,11 +29,27 @@ fn run(command: u64, values: [u32; 64], count: usize, out: &mut [u8; 65536], at:
     }
 }
 
+// The rest of a line after the word `answer`: the kind, its numbers, the most steps and the edges.
+fn answer(rest: &[u8], out: &mut [u8; 65536], at: usize) -> usize {
+    let start = 0;
+    let end = fields::find(rest, start, b' ');
+    let kind = fields::word(&rest[start..end]);
+    let mut values = [0u32; 64];
+    let count = fields::numbers(&rest[end..], conversions::hex_fields(kind), &mut values);
+    answers::answer(kind, values, count, out, at)
+}
+
 // Answers one line, without its newline.
 pub(crate) fn answer_line(line: &[u8], out: &mut [u8; 65536], at: usize) -> usize {
     let start = 0;
     let end = fields::find(line, start, b' ');
     let command = fields::word(&line[start..end]);
+    if command == ANSWER {
+        if end < line.len() {
+            let next = end + 1;
+            return answer(&line[next..], out, at);
+        }
+    }
     let mut values = [0u32; 64];
     let count = fields::numbers(&line[end..], conversions::hex_fields(command), &mut values);
     run(command, values, count, out, at)

@@ -2,7 +2,6 @@
 use crate::put;
 use reading::Converted;
 use reading::Reading;
-use refusal::Refusal;
 
 // The words of the kinds, by their ASCII bytes; any other word counts as whole.
 const UV: u64 = 0x7576;
@@ -52,6 +51,7 @@ fn put_converted(converted: Converted, out: &mut [u8; 65536], at: usize) -> usiz
     }
 }
 
+// What the reading of a kind comes to.
 pub(crate) fn conversion(kind: u64, values: [u32; 64], out: &mut [u8; 65536], at: usize) -> usize {
     if hex_fields(kind) > 0 {
         let reading = reading_of(kind, values[0], values[1], values[2]);

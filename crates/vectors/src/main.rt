@@ -1,4 +1,5 @@
 // Runs test vectors: one to a line of standard input, its answer to a line of standard output.
+mod answers;
 mod commands;
 mod conversions;
 mod fields;

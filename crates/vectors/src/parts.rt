@@ -74,6 +74,7 @@ pub(crate) fn search(x: u32, y: u32, steps: u32, out: &mut [u8; 65536], at: usiz
     }
 }
 
+// The class of `low high best` under the edges after them.
 pub(crate) fn class(values: [u32; 64], count: usize, out: &mut [u8; 65536], at: usize) -> usize {
     let low = values[0];
     let high = values[1];
@@ -84,6 +85,7 @@ pub(crate) fn class(values: [u32; 64], count: usize, out: &mut [u8; 65536], at: 
     put::last(out, at, class as u64)
 }
 
+// 1 where the edges are valid, otherwise 0.
 pub(crate) fn edges(values: [u32; 64], count: usize, out: &mut [u8; 65536], at: usize) -> usize {
     let start = 0;
     let end = fields::bounded(count, start);

@@ -1,0 +1,7 @@
+pub mod Answers
+pub mod FloatAnswers
+pub mod OnSpan
+pub mod Refinement
+pub mod RefinementProof
+pub mod ProgramEdges
+pub mod WorkedCases

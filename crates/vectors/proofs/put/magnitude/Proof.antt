@@ -1,0 +1,26 @@
+-- `magnitude` casts only what fits, by the laws of proofs/Signed.antt.
+use Rattle.vectors.proofs.Signed.{widens, minus-fits, down, up}
+use borrow.Author.Needs.{needs}
+use Rattle.vectors.proofs.put.magnitude.Statement.{statement}
+use Rattle.vectors.proofs.put.magnitude.Tie as tie
+
+cast-result : tie.Need-cast-result
+cast-result c = widens (c .before .fits .z)
+
+sub-result : tie.Need-sub-result
+sub-result c = minus-fits (c .before .fits .z)
+
+cast-result-2 : tie.Need-cast-result-2
+cast-result-2 c = down (c .before .fits .z) (c .if1 .taken)
+
+returns : tie.Need-returns
+returns c = search needs
+
+cast-result-3 : tie.Need-cast-result-3
+cast-result-3 c = up (c .before .fits .z) (c .if1 .left)
+
+returns-2 : tie.Need-returns-2
+returns-2 c = search needs
+
+pub magnitude-spec : {M : Type 1} → statement M
+magnitude-spec = tie.close (tie.spec cast-result sub-result cast-result-2 returns cast-result-3 returns-2)
