@@ -76,7 +76,7 @@ def write(files):
         print("wrote %s (%d bytes)" % (name, len(wanted)))
 
 
-PARTS = (vector_files,)
+PARTS = (vector_files, text_files)
 
 
 def main():

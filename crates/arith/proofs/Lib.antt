@@ -1,1 +1,2 @@
 pub mod Newton
+pub mod Signed

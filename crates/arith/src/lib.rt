@@ -1,6 +1,7 @@
-// Whole-number arithmetic: the rounded quotient and the square root.
+// Whole-number arithmetic: the rounded quotient, the square root and the magnitude.
 ghost use mathlib.Core.Path.{_≡_};
 ghost use Prim.Native.Nat.{_+_, _*_, _≤_, _<_};
+ghost use lib.IntN.{natAbs};
 ghost use Rattle.arith.specs.Rounding.{nearestQuotient};
 ghost use Rattle.arith.specs.Root.{root};
 
@@ -41,4 +42,14 @@ pub fn integer_root(n: u64) -> u32
         quotient = n / guess;
     }
     guess as u32
+}
+
+// How far z is from zero.
+pub fn magnitude(z: i32) -> u32
+    ensures { λ r. ⌜ r ≡ natAbs z ⌝ }
+{
+    if z < 0 {
+        return (0 - z as i64) as u32;
+    }
+    z as u32
 }

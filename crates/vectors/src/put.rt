@@ -55,17 +55,9 @@ pub(crate) fn refused(out: &mut [u8; 65536], at: usize, refusal: Refusal) -> usi
     last(out, at, Refusal::number(refusal) as u64)
 }
 
-// How far z is from zero.
-fn magnitude(z: i32) -> u32 {
-    if z < 0 {
-        return (0 - z as i64) as u32;
-    }
-    z as u32
-}
-
 // A signed number with more to follow on its line.
 pub(crate) fn signed(out: &mut [u8; 65536], at: usize, z: i32) -> usize {
-    let n = magnitude(z) as u64;
+    let n = arith::magnitude(z) as u64;
     if z < 0 {
         let next = byte(out, at, b'-');
         return number(out, next, n);

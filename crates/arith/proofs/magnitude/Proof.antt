@@ -1,8 +1,8 @@
--- `magnitude` casts only what fits, by the laws of proofs/Signed.antt.
-use Rattle.vectors.proofs.Signed.{widens, minus-fits, down, up}
+-- `magnitude` meets its contract: the casts keep the number, by the laws of Signed.
+use Rattle.arith.proofs.Signed.{widens, minus-fits, down, size-neg, up}
 use borrow.Author.Needs.{needs}
-use Rattle.vectors.proofs.put.magnitude.Statement.{statement}
-use Rattle.vectors.proofs.put.magnitude.Tie as tie
+use Rattle.arith.proofs.magnitude.Statement.{statement}
+use Rattle.arith.proofs.magnitude.Tie as tie
 
 cast-result : tie.Need-cast-result
 cast-result c = widens (c .before .fits .z)
@@ -14,7 +14,7 @@ cast-result-2 : tie.Need-cast-result-2
 cast-result-2 c = down (c .before .fits .z) (c .if1 .taken)
 
 returns : tie.Need-returns
-returns c = search needs
+returns c = size-neg (c .before .fits .z)
 
 cast-result-3 : tie.Need-cast-result-3
 cast-result-3 c = up (c .before .fits .z) (c .if1 .left)

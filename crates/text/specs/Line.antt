@@ -1,0 +1,71 @@
+-- Document 01, "The text program": what a line of the input says.
+use Prim.Native.Nat.{ℕ, _+_, _*_, _-_}
+use mathlib.Core.List.{List, [], _∷_, map}
+use mathlib.Core.Bool.{Bool, true, cond, _&&_}
+use lib.ListN.{length}
+use lib.Dec.{leb, eqb}
+use Rattle.text.specs.declared.grammar.Line.{Line}
+use Rattle.text.specs.declared.grammar.Line.the-variants.{Unreadable, Numbers}
+
+-- the bytes that part words and lines
+abbrev pub space : ℕ
+space = 32
+
+abbrev pub newline : ℕ
+newline = 10
+
+-- a byte put in front of the first of some pieces
+abbrev pub front : ℕ → List (List ℕ) → List (List ℕ)
+front x [] = (x ∷ []) ∷ []
+front x (p ∷ ps) = (x ∷ p) ∷ ps
+
+-- the pieces of a list that a separator parts; `end` is what the end of the list makes of nothing
+abbrev pub split : ℕ → List (List ℕ) → List ℕ → List (List ℕ)
+split separator end [] = end
+split separator end (x ∷ l) =
+    cond (eqb x separator) ([] ∷ split separator end l) (front x (split separator end l))
+
+-- the words of a line, with one space between: at the end nothing is an empty word
+abbrev pub words : List ℕ → List (List ℕ)
+words l = split space ([] ∷ []) l
+
+-- whether each of a list passes a test
+abbrev pub every : {A : Type 0} → (A → Bool) → List A → Bool
+every test [] = true
+every test (x ∷ l) = test x && every test l
+
+-- a decimal digit in ASCII
+abbrev pub isDigit : ℕ → Bool
+isDigit x = leb 48 x && leb x 57
+
+-- a number has 1 to 7 decimal digits
+abbrev pub isNumber : List ℕ → Bool
+isNumber w = every isDigit w && (leb 1 (length w) && leb (length w) 7)
+
+-- the number that digits write, after those that wrote n
+abbrev pub valueFrom : ℕ → List ℕ → ℕ
+valueFrom n [] = n
+valueFrom n (x ∷ w) = valueFrom (10 * n + (x - 48)) w
+
+abbrev pub value : List ℕ → ℕ
+value w = valueFrom 0 w
+
+-- document 01's allowance for a line of two numbers
+abbrev pub defaultSteps : ℕ
+defaultSteps = 14
+
+-- two numbers, u and v, or three, with the allowance
+abbrev pub numbersOf : List ℕ → Line
+numbersOf [] = Unreadable
+numbersOf (u ∷ []) = Unreadable
+numbersOf (u ∷ v ∷ []) = Numbers u v defaultSteps
+numbersOf (u ∷ v ∷ n ∷ []) = Numbers u v n
+numbersOf (u ∷ v ∷ n ∷ m ∷ rest) = Unreadable
+
+-- what the words of a line say
+abbrev pub wordsLine : List (List ℕ) → Line
+wordsLine ws = cond (every isNumber ws) (numbersOf (map value ws)) Unreadable
+
+-- what a line says: an empty line, or one over 32 bytes, cannot be read
+unfoldable pub lineOf : List ℕ → Line
+lineOf l = cond (leb 1 (length l) && leb (length l) 32) (wordsLine (words l)) Unreadable

@@ -1,0 +1,47 @@
+-- Document 01, "The text program": the line that answers a line of the input.
+use Prim.Native.Nat.{ℕ}
+use mathlib.Core.List.{List, [], _∷_, _++_}
+use mathlib.Core.Bool.{cond}
+use lib.Dec.{eqb}
+use Rattle.refusal.specs.Number.{numberOf}
+use Rattle.refusal.specs.declared.Refusal.the-variants.{Unreadable as NotALine}
+use Rattle.reading.specs.Convert.{convertWhole}
+use Rattle.cct.specs.declared.Answer.{Answer}
+use Rattle.cct.specs.Answers.{answer}
+use Rattle.cct.specs.ProgramEdges.{programEdges}
+use Rattle.text.specs.declared.grammar.Line.{Line}
+use Rattle.text.specs.declared.grammar.Line.the-variants.{Unreadable, Numbers}
+use Rattle.text.specs.Line.{space, newline, lineOf}
+use Rattle.text.specs.Decimal.{decimal, signed}
+
+-- words with one space between
+abbrev pub spaced : List (List ℕ) → List ℕ
+spaced [] = []
+spaced (w ∷ []) = w
+spaced (w ∷ v ∷ ws) = w ++ (space ∷ spaced (v ∷ ws))
+
+-- the class, or `-` for none, which an answer holds as 255
+abbrev pub classText : ℕ → List ℕ
+classText c = cond (eqb c 255) (45 ∷ []) (decimal c)
+
+-- `0 place o p duv steps class`
+abbrev pub acceptedText : Answer → List ℕ
+acceptedText a =
+    spaced (decimal 0 ∷ decimal (a .place) ∷ decimal (a .low) ∷ decimal (a .high) ∷ signed (a .duv) ∷ decimal (a .steps) ∷ classText (a .class) ∷ [])
+
+-- that, or the refusal number alone
+abbrev pub answerText : Answer → List ℕ
+answerText a = cond (eqb (a .refusal) 0) (acceptedText a) (decimal (a .refusal))
+
+-- the answer to what a line says: refusal 8 comes before all others
+unfoldable pub replyTo : Line → List ℕ
+replyTo Unreadable = decimal (numberOf NotALine)
+replyTo (Numbers u v n) = answerText (answer programEdges (convertWhole u v) n)
+
+-- with its newline
+abbrev pub replyLine : Line → List ℕ
+replyLine l = replyTo l ++ (newline ∷ [])
+
+-- the line that answers a line of the input
+abbrev pub answerLine : List ℕ → List ℕ
+answerLine l = replyLine (lineOf l)

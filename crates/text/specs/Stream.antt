@@ -1,0 +1,17 @@
+-- Document 01, "The text program": the whole output for a whole input.
+use Prim.Native.Nat.{ℕ}
+use mathlib.Core.List.{List, [], _∷_, _++_}
+use Rattle.text.specs.Line.{newline, split}
+use Rattle.text.specs.Print.{answerLine}
+
+-- the lines of an input: the last may lack its newline; at the end nothing is no line, so a newline there starts none
+abbrev pub lines : List ℕ → List (List ℕ)
+lines input = split newline [] input
+
+-- the answers to lines, in order
+abbrev pub answers : List (List ℕ) → List ℕ
+answers [] = []
+answers (l ∷ ls) = answerLine l ++ answers ls
+
+unfoldable pub outputOf : List ℕ → List ℕ
+outputOf input = answers (lines input)
