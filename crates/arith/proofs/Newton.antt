@@ -1,7 +1,7 @@
 -- Newton's step for the square root: the mean of g and n / g is not below the root.
 use mathlib.Core.Path.{_≡_, refl}
 use mathlib.Core.Bool.{Bool, true, false}
-use Prim.Native.Nat.{ℕ, zero, suc, _+_, _-_, _*_, _/_, _%_, _≤_, _<_}
+use Prim.Native.Nat.{ℕ, _+_, _-_, _*_, _/_, _%_, _≤_, _<_}
 use native.Mathlib.Nat.{mul-le-mul, mul-comm, add-comm, div-add-mod', mod-lt}
 use native.Mathlib.Omega.{arith}
 use lib.Dec.{leb}
@@ -31,7 +31,3 @@ above-root n g r pos h =
     let k : g + (q + 1) ≤ 2 * (r + 1) = omega arith in
     let s : (g + (q + 1)) * (g + (q + 1)) ≤ 2 * (r + 1) * (2 * (r + 1)) = mul-le-mul k k in
     omega (arith, mul-comm g q)
-
-pub positive : (n r : ℕ) → 1 ≤ n → n < (r + 1) * (r + 1) → 1 ≤ r
-positive n zero h l = omega arith
-positive n (suc r) h l = omega arith

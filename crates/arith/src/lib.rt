@@ -19,13 +19,18 @@ pub fn nearest_quotient(a: u64, b: u64) -> u64
     }
 }
 
-// A number that is not below the root of n: about Newton's step from the power of two near it. Which one decides only the time.
+// A number of 32 bits that is not below the root of n: about Newton's step from the power of two near it. Which one decides only the time.
 fn first_guess(n: u64) -> u64
     requires { ⌜ 1 ≤ n ⌝ }
-    ensures { λ r. ⌜ n < (r + 1) * (r + 1) ⌝ }
+    ensures { λ r. ⌜ (r ≤ 4294967295) × (n < (r + 1) * (r + 1)) ⌝ }
 {
     let half_bits = (64 - u64::leading_zeros(n)) / 2;
-    (1u64 << half_bits) / 2 + (n >> half_bits) / 2 + 1
+    let guess = (1u64 << half_bits) / 2 + (n >> half_bits) / 2 + 1;
+    if guess < 4294967295 {
+        guess
+    } else {
+        4294967295
+    }
 }
 
 // The largest whole number whose square is at most n, by Newton's steps down from a first guess.
@@ -36,10 +41,8 @@ pub fn integer_root(n: u64) -> u32
         return 0;
     }
     let mut guess = first_guess(n);
-    let mut quotient = n / guess;
-    while quotient < guess {
-        guess = quotient + (guess - quotient) / 2;
-        quotient = n / guess;
+    while n < guess * guess {
+        guess = (guess + n / guess) / 2;
     }
     guess as u32
 }

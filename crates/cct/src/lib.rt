@@ -11,7 +11,6 @@ ghost use lib.Dec.{leb};
 ghost use lib.IntN.{pos, negℤ};
 ghost use lib.ListN.{length};
 ghost use Rattle.reading.specs.Convert.{convertReading, convertWhole};
-ghost use Rattle.reading.specs.ConvertLaws.{Within};
 ghost use Rattle.locus.specs.Admission.{limit};
 ghost use Rattle.search.specs.Progress.{Begins};
 ghost use Rattle.cct.specs.Answers.{duvAt, refused, accepted, answered, checkedPoint, answer};
@@ -23,6 +22,9 @@ const KELVIN_PLACES: u32 = 103360000;
 
 // The micro in a unit of u, v and Duv.
 const MICRO: u32 = 1000000;
+
+// A point with a coordinate over this is too far from every entry.
+const FAR_OUT: u32 = 4000000;
 
 // The whole-number answer. A refused one has its number and zeros in every other field.
 #[repr(C)]
@@ -112,9 +114,15 @@ fn accepted_answer(
 
 // The answer to a point, the edges being valid: refusals 5, 6 and 7, or the accepted answer.
 fn answer_point(u: u32, v: u32, edges: &[u32], max_steps: u32) -> Answer
-    requires { ⌜ (u ≤ 4000000) × (v ≤ 4000000) × (length (now edges) ≤ 32) ⌝ }
+    requires { ⌜ length (now edges) ≤ 32 ⌝ }
     ensures { λ r. ⌜ r ≡ answered (now (edges .entry)) «max_steps» (checkedPoint (Converted.Point u v)) ⌝ }
 {
+    if FAR_OUT < u {
+        return refused_answer(Refusal::TooFar);
+    }
+    if FAR_OUT < v {
+        return refused_answer(Refusal::TooFar);
+    }
     let us = locus::table_u();
     let vs = locus::table_v();
     match locus::admit(&us, &vs, u, v) {
@@ -126,10 +134,10 @@ fn answer_point(u: u32, v: u32, edges: &[u32], max_steps: u32) -> Answer
     }
 }
 
-// The answer to what a reading was converted to.
-fn answer_converted(converted: Converted, edges: &[u32], max_steps: u32) -> Answer
-    requires { ⌜ Within converted ⌝ }
-    ensures { λ r. ⌜ r ≡ answer (now (edges .entry)) converted «max_steps» ⌝ }
+// The whole-number answer to what a reading was converted to.
+pub fn whole_answer_converted(converted: Converted, edges: &[u32], max_steps: u32) -> Answer
+    ensures answers { λ r. ⌜ r ≡ answer (now (edges .entry)) converted «max_steps» ⌝ }
+    ensures unchanged { λ r. ⌜ now (edges .exit) ≡ now (edges .entry) ⌝ }
 {
     if !classes::edges_valid(edges) {
         return refused_answer(Refusal::BadEdges);
@@ -138,24 +146,6 @@ fn answer_converted(converted: Converted, edges: &[u32], max_steps: u32) -> Answ
         Converted::Refused(refusal) => refused_answer(refusal),
         Converted::Point(u, v) => answer_point(u, v, edges, max_steps),
     }
-}
-
-// The whole-number answer to a reading of any of the four kinds.
-pub fn whole_answer_reading(reading: Reading, edges: &[u32], max_steps: u32) -> Answer
-    ensures answers { λ r. ⌜ r ≡ answer (now (edges .entry)) (convertReading reading) «max_steps» ⌝ }
-    ensures unchanged { λ r. ⌜ now (edges .exit) ≡ now (edges .entry) ⌝ }
-{
-    let converted = reading::convert(reading);
-    answer_converted(converted, edges, max_steps)
-}
-
-// The whole-number answer to u and v in micro.
-pub fn whole_answer_uv(u: u32, v: u32, edges: &[u32], max_steps: u32) -> Answer
-    ensures answers { λ r. ⌜ r ≡ answer (now (edges .entry)) (convertWhole u v) «max_steps» ⌝ }
-    ensures unchanged { λ r. ⌜ now (edges .exit) ≡ now (edges .entry) ⌝ }
-{
-    let converted = reading::convert_whole(u, v);
-    answer_converted(converted, edges, max_steps)
 }
 
 // A whole-number answer with its temperature and Duv as floats, each by one division of two exact numbers.
@@ -178,13 +168,40 @@ pub fn float_answer(answer: Answer) -> FloatAnswer
     }
 }
 
+// The answer to what a reading was converted to.
+pub fn answer_converted(converted: Converted, edges: &[u32], max_steps: u32) -> FloatAnswer
+    ensures answers { λ r. ⌜ r ≡ floatAnswer (answer (now (edges .entry)) converted «max_steps») ⌝ }
+    ensures unchanged { λ r. ⌜ now (edges .exit) ≡ now (edges .entry) ⌝ }
+{
+    let whole = whole_answer_converted(converted, edges, max_steps);
+    float_answer(whole)
+}
+
+// The whole-number answer to a reading of any of the four kinds.
+pub fn whole_answer_reading(reading: Reading, edges: &[u32], max_steps: u32) -> Answer
+    ensures answers { λ r. ⌜ r ≡ answer (now (edges .entry)) (convertReading reading) «max_steps» ⌝ }
+    ensures unchanged { λ r. ⌜ now (edges .exit) ≡ now (edges .entry) ⌝ }
+{
+    let converted = reading::convert(reading);
+    whole_answer_converted(converted, edges, max_steps)
+}
+
+// The whole-number answer to u and v in micro.
+pub fn whole_answer_uv(u: u32, v: u32, edges: &[u32], max_steps: u32) -> Answer
+    ensures answers { λ r. ⌜ r ≡ answer (now (edges .entry)) (convertWhole u v) «max_steps» ⌝ }
+    ensures unchanged { λ r. ⌜ now (edges .exit) ≡ now (edges .entry) ⌝ }
+{
+    let converted = reading::convert_whole(u, v);
+    whole_answer_converted(converted, edges, max_steps)
+}
+
 // The answer to a reading of any of the four kinds.
 pub fn answer_reading(reading: Reading, edges: &[u32], max_steps: u32) -> FloatAnswer
     ensures answers { λ r. ⌜ r ≡ floatAnswer (answer (now (edges .entry)) (convertReading reading) «max_steps») ⌝ }
     ensures unchanged { λ r. ⌜ now (edges .exit) ≡ now (edges .entry) ⌝ }
 {
-    let whole = whole_answer_reading(reading, edges, max_steps);
-    float_answer(whole)
+    let converted = reading::convert(reading);
+    answer_converted(converted, edges, max_steps)
 }
 
 // The answer to u and v in micro.
@@ -192,6 +209,6 @@ pub fn answer_uv(u: u32, v: u32, edges: &[u32], max_steps: u32) -> FloatAnswer
     ensures answers { λ r. ⌜ r ≡ floatAnswer (answer (now (edges .entry)) (convertWhole u v) «max_steps») ⌝ }
     ensures unchanged { λ r. ⌜ now (edges .exit) ≡ now (edges .entry) ⌝ }
 {
-    let whole = whole_answer_uv(u, v, edges, max_steps);
-    float_answer(whole)
+    let converted = reading::convert_whole(u, v);
+    answer_converted(converted, edges, max_steps)
 }

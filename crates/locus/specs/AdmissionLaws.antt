@@ -1,12 +1,16 @@
 -- The nearest entry is an entry, and an admitted reading is near it.
 use mathlib.Core.Path.{_≡_, refl, ap, sym, _∙_}
 use mathlib.Core.Bool.{Bool, true, false, cond}
-use Prim.Native.Nat.{ℕ, _+_, _≤_}
+use mathlib.Core.Logic.{_⊎_, ⊎-elim}
+use Prim.Native.Nat.{ℕ, _+_, _*_, _≤_, _<_}
+use native.Mathlib.Nat.{mul-le-mul}
 use native.Mathlib.Omega.{arith}
-use borrow.Author.Tests.{ltb-false}
+use borrow.Author.Tests.{ltb-false, lt-ltb}
 use Rattle.arith.specs.LeastLaws.{least}
 use Rattle.refusal.specs.declared.Refusal.the-variants.{TooFar, TooHot, TooCool}
-use Rattle.locus.specs.Locus.{entryDistance}
+use Rattle.locus.specs.Stored.{entryU, entryV}
+use Rattle.locus.specs.StoredLaws.{steady-u, steady-v}
+use Rattle.locus.specs.Locus.{difference, squaredDistance, entryDistance}
 use Rattle.locus.specs.Admission.{nearestEntry, limit, tooFar, past, admission}
 use Rattle.locus.specs.declared.Admission.the-variants.{Near, Refused}
 
@@ -34,3 +38,18 @@ admitted-near u v m d e =
     let x = last-of-four (tooFar u v) (past u v 1 2) (past u v 24 23) (nearestEntry u v) (entryDistance u v (nearestEntry u v)) m d e in
     let near = ltb-false limit (entryDistance u v (nearestEntry u v)) (x .0) in
     record { entry = sym (x .1); distance = sym (x .2) ∙ ap (entryDistance u v) (x .1); within = omega arith }
+
+-- a square is at least that of a smaller number
+far-square : (u x : ℕ) → 4000000 < u → x ≤ 1000000 → 9000000000000 ≤ difference u x * difference u x
+far-square u x h l = mul-le-mul {n₁ = 3000000} {m₁ = 3000000} {n₂ = difference u x} {m₂ = difference u x} (omega arith) (omega arith)
+
+-- a point with a coordinate over 4,000,000 is too far from every entry
+pub far-out : (u v : ℕ) → (4000000 < u) ⊎ (4000000 < v) → admission u v ≡ Refused TooFar
+unfolding admission entryDistance squaredDistance
+far-out u v w =
+    let m : ℕ = nearestEntry u v in
+    let r = nearest-range u v in
+    let x = steady-u .small m (r .1) in
+    let y = steady-v .small m (r .1) in
+    let far : limit < entryDistance u v m = ⊎-elim (λ h. omega (arith, far-square u (entryU m) h x)) (λ h. omega (arith, far-square v (entryV m) h y)) w in
+    rw (lt-ltb limit (entryDistance u v m) far) refl

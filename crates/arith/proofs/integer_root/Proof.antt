@@ -1,25 +1,26 @@
--- `integer_root` meets its contract. The loop keeps a guess that is not below the root, with the quotient n / guess; it ends where the
--- guess's square is at most n, and the guess falls until then.
-use mathlib.Core.Path.{_≡_, refl}
-use Prim.Native.Nat.{ℕ, zero, suc, _+_, _-_, _*_, _/_, _^_, _≤_, _<_}
-use native.Mathlib.Nat.{le-div-iff-mul-le, zero-lt-suc}
+-- `integer_root` meets its contract. The loop keeps a guess of 32 bits that is not below the root; it ends where the guess's square is at
+-- most n, and the guess falls until then.
+use Prim.Native.Nat.{ℕ, zero, suc, _+_, _*_, _/_, _≤_, _<_}
+use native.Mathlib.Nat.{mul-le-mul, div-lt-iff-lt-mul, zero-lt-suc}
 use native.Mathlib.Omega.{arith}
-use Rattle.arith.specs.Root.{root}
-use Rattle.arith.specs.RootLaws.{root-only, root-below}
-use Rattle.arith.proofs.Newton.{above-root, positive}
+use Rattle.arith.specs.RootLaws.{root-only}
+use Rattle.arith.proofs.Newton.{above-root}
 use Rattle.arith.proofs.integer_root.Statement.{statement}
 use Rattle.arith.proofs.integer_root.Tie as tie
 
 abbrev Inv-loop : tie.InvT-loop
-Inv-loop n guess₀ quotient₀ guess quotient = (guess < 2 ^ 64) × (quotient ≡ n / guess) × (n < (guess + 1) * (guess + 1))
+Inv-loop n guess₀ guess = (guess ≤ 4294967295) × (n < (guess + 1) * (guess + 1))
 
 abbrev μ-loop : tie.MeasureT-loop
-μ-loop n guess₀ quotient₀ guess quotient = guess
+μ-loop n guess₀ guess = guess
 
--- where the guess is at most the quotient, it is the root
-found : (n g q : ℕ) → n < 2 ^ 64 → q ≡ n / g → g ≤ q → n < (g + 1) * (g + 1) → g ≡ root n
-found n zero q h e l above = root-only n 0 h (record { low = omega arith; high = above })
-found n (suc g) q h e l above = root-only n (suc g) h (record { low = le-div-iff-mul-le (zero-lt-suc g) .0 (omega arith); high = above })
+-- a guess whose square is above n is above n / guess
+above-quotient : (n g : ℕ) → n < g * g → (0 < g) × (n / g < g)
+above-quotient n zero h = absurd (omega arith)
+above-quotient n (suc g) h = (zero-lt-suc g, div-lt-iff-lt-mul (zero-lt-suc g) .1 h)
+
+square-fits : (g : ℕ) → g ≤ 4294967295 → g * g ≤ 18446744065119617025
+square-fits g h = mul-le-mul h h
 
 returns : tie.Need-returns Inv-loop μ-loop
 returns c = root-only _ _ (omega arith) (record { low = omega arith; high = omega arith })
@@ -27,39 +28,31 @@ returns c = root-only _ _ (omega arith) (record { low = omega arith; high = omeg
 first-guess-requires : tie.Need-first-guess-requires Inv-loop μ-loop
 first-guess-requires c κs = omega arith
 
-div-quotient : tie.Need-div-quotient Inv-loop μ-loop
-div-quotient c = let p = positive (c .before .before .args .n) (c .first-guess .result) (omega arith) (c .first-guess .ensures) in omega arith
-
 loop-holds : tie.Need-loop-holds Inv-loop μ-loop
-loop-holds c = (omega (arith, c .first-guess .ok), refl, c .first-guess .ensures)
+loop-holds c = c .first-guess .ensures
 
-sub-guess : tie.Need-sub-guess Inv-loop μ-loop
-sub-guess c = omega arith
+mul-loop : tie.Need-mul-loop Inv-loop μ-loop
+mul-loop c = omega (arith, square-fits (c .loop .guess) (c .loop .inv .0))
+
+div-guess : tie.Need-div-guess Inv-loop μ-loop
+div-guess c = above-quotient _ (c .before .loop .guess) (c .loop-test .taken) .0
 
 add-guess : tie.Need-add-guess Inv-loop μ-loop
-add-guess c = omega arith
-
-div-quotient-2 : tie.Need-div-quotient-2 Inv-loop μ-loop
-div-quotient-2 c = positive (c .before .before .before .before .args .n) _ (omega arith) (above-root (c .before .before .before .before .args .n) (c .before .loop .guess) _ (omega arith) (omega arith))
+add-guess c = let q = above-quotient _ (c .before .loop .guess) (c .loop-test .taken) in omega arith
 
 loop-less : tie.Need-loop-less Inv-loop μ-loop
-loop-less c = omega arith
+loop-less c = let q = above-quotient _ (c .before .loop .guess) (c .loop-test .taken) in omega arith
 
 loop-again : tie.Need-loop-again Inv-loop μ-loop
 loop-again c =
-    let l = c .before .loop in
-    (omega arith, refl, above-root (c .before .before .before .before .args .n) (l .guess) _ (omega arith) (omega arith))
+    let q = above-quotient _ (c .before .loop .guess) (c .loop-test .taken) in
+    (omega arith, above-root (c .before .before .before .before .args .n) (c .before .loop .guess) _ (q .0) (omega arith))
 
 cast-result : tie.Need-cast-result Inv-loop μ-loop
-cast-result c =
-    let l = c .before .loop in
-    let e = found (c .before .before .before .before .args .n) (l .guess) (l .quotient) (omega arith) (l .inv .1) (c .loop-test .left) (l .inv .2) in
-    omega (arith, root-below (c .before .before .before .before .args .n) (2 ^ 32) (omega arith) (omega arith))
+cast-result c = omega arith
 
 returns-2 : tie.Need-returns-2 Inv-loop μ-loop
-returns-2 c =
-    let l = c .before .loop in
-    found (c .before .before .before .before .args .n) (l .guess) (l .quotient) (omega arith) (l .inv .1) (c .loop-test .left) (l .inv .2)
+returns-2 c = root-only _ _ (omega arith) (record { low = c .loop-test .left; high = c .before .loop .inv .1 })
 
 pub integer-root-spec : {M : Type 1} → statement M
 integer-root-spec =
@@ -69,11 +62,10 @@ integer-root-spec =
     μ-loop
     returns
     first-guess-requires
-    div-quotient
     loop-holds
-    sub-guess
+    mul-loop
+    div-guess
     add-guess
-    div-quotient-2
     loop-less
     loop-again
     cast-result

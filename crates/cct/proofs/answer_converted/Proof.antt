@@ -1,59 +1,18 @@
--- `answer_converted` meets its contract: refusal 1 first, then what the conversion found, then the point.
-use mathlib.Core.Path.{_≡_, sym, _∙_, subst}
-use denote.Ref.{now}
-use borrow.Author.Tests.{not-true, not-false}
-use Rattle.reading.specs.ConvertLaws.{Within}
-use Rattle.classes.specs.EdgeLaws.{valid-short}
-use Rattle.cct.proofs.Assembly.{edges-refused, reading-refused, edges-passed}
+-- `answer_converted` meets its contract: the float answer of the whole-number one.
+use mathlib.Core.Path.{refl}
 use borrow.Author.Needs.{needs}
 use Rattle.cct.proofs.answer_converted.Statement.{statement}
 use Rattle.cct.proofs.answer_converted.Tie as tie
 
-edges-valid-requires : tie.Need-edges-valid-requires
-edges-valid-requires c κs = search needs
+whole-answer-converted-requires : tie.Need-whole-answer-converted-requires
+whole-answer-converted-requires c κs = search needs
 
-refused-answer-requires : tie.Need-refused-answer-requires
-refused-answer-requires c κs = search needs
+float-answer-requires : tie.Need-float-answer-requires
+float-answer-requires c κs = search needs
 
 returns : tie.Need-returns
-returns c =
-    let a = c .before .before .before .before .args in
-    c .refused-answer .ensures ∙ edges-refused (now (a .edges)) (a .converted) (a .max-steps) (sym (c .before .before .edges-valid .ensures .0) ∙ not-true _ (c .before .if1 .taken))
-
-enum-known-converted : tie.Need-enum-known-converted
-enum-known-converted c = search needs
-
-refused-answer-requires-2 : tie.Need-refused-answer-requires-2
-refused-answer-requires-2 c κs = search needs
-
-enum-known-converted-2 : tie.Need-enum-known-converted-2
-enum-known-converted-2 c = search needs
-
-answer-point-requires : tie.Need-answer-point-requires
-answer-point-requires c κs =
-    let w = subst Within (c .before .converted2 .given .1) (c .before .before .before .before .before .before .pre) in
-    (w .0, w .1, valid-short (now (c .before .before .before .before .before .before .args .edges)) (sym (c .before .before .before .before .edges-valid .ensures .0) ∙ not-false _ (c .before .before .before .if1 .left)))
-
-returns-2 : tie.Need-returns-2
-returns-2 c =
-    let a = c .before .before .before .before .before .before .before .args in
-    c .refused-answer2 .ensures ∙ reading-refused (now (a .edges)) (a .converted) (a .max-steps) (sym (c .before .before .before .before .before .edges-valid .ensures .0) ∙ not-false _ (c .before .before .before .before .if1 .left)) (c .before .before .converted .given .1)
-
-returns-3 : tie.Need-returns-3
-returns-3 c =
-    let a = c .before .before .before .before .before .before .before .args in
-    c .answer-point .ensures ∙ edges-passed (now (a .edges)) (a .converted) (a .max-steps) (sym (c .before .before .before .before .before .edges-valid .ensures .0) ∙ not-false _ (c .before .before .before .before .if1 .left)) (c .before .before .converted2 .given .1)
+returns c = (cc, refl)
 
 pub answer-converted-spec : {M : Type 1} → statement M
 answer-converted-spec =
-    tie.close
-    (tie.spec
-    edges-valid-requires
-    refused-answer-requires
-    returns
-    enum-known-converted
-    refused-answer-requires-2
-    enum-known-converted-2
-    answer-point-requires
-    returns-2
-    returns-3)
+    tie.close (tie.spec whole-answer-converted-requires float-answer-requires returns)

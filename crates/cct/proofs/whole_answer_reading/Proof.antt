@@ -1,9 +1,5 @@
--- `whole_answer_reading` meets its contract: what the conversion ensures goes into the answer.
-use mathlib.Core.Path.{refl, ap, sym, subst, _∙_}
-use denote.Ref.{now}
-use Rattle.reading.specs.declared.Converted.{Converted}
-use Rattle.reading.specs.ConvertLaws.{Within, reading-within}
-use Rattle.cct.specs.Answers.{answer}
+-- `whole_answer_reading` meets its contract: the answer to what the reading is converted to.
+use mathlib.Core.Path.{refl}
 use borrow.Author.Needs.{needs}
 use Rattle.cct.proofs.whole_answer_reading.Statement.{statement}
 use Rattle.cct.proofs.whole_answer_reading.Tie as tie
@@ -11,13 +7,12 @@ use Rattle.cct.proofs.whole_answer_reading.Tie as tie
 convert-requires : tie.Need-convert-requires
 convert-requires c κs = search needs
 
-answer-converted-requires : tie.Need-answer-converted-requires
-answer-converted-requires c κs = subst Within (sym (c .convert .ensures)) (reading-within (c .before .before .args .reading))
+whole-answer-converted-requires : tie.Need-whole-answer-converted-requires
+whole-answer-converted-requires c κs = search needs
 
 returns : tie.Need-returns
-returns c =
-    let a = c .before .before .before .args in
-    (c .answer-converted .ensures ∙ ap (λ (k : Converted). answer (now (a .edges)) k (a .max-steps)) (c .before .convert .ensures), refl)
+returns c = (cc, refl)
 
 pub whole-answer-reading-spec : {M : Type 1} → statement M
-whole-answer-reading-spec = tie.close (tie.spec convert-requires answer-converted-requires returns)
+whole-answer-reading-spec =
+    tie.close (tie.spec convert-requires whole-answer-converted-requires returns)

@@ -1,0 +1,160 @@
+/* The rules of document 01 in plain C, written for the benchmark from the document as a C programmer would write them for
+ * speed: constant tables, 32-bit products where they fit, distances carried from step to step, the machine's square root. */
+#include "plain.h"
+
+#include <math.h>
+
+enum { ENTRIES = 24, PIECE = 2584, KELVIN_PLACES = 103360000, MOST_STEPS = 14, WHOLE_LIMIT = 4000000 };
+static const int64_t FARTHEST = 900000000;
+
+static const uint32_t TABLE_U[ENTRIES] = {183870, 186730, 190310, 194620, 199620, 205240, 211420, 218070,
+                                          225110, 232470, 240100, 247920, 255910, 264000, 272170, 280390,
+                                          288620, 296850, 305040, 313190, 321280, 329300, 337230, 345070};
+static const uint32_t TABLE_V[ENTRIES] = {277150, 285090, 293300, 301440, 309230, 316490, 323130, 329100,
+                                          334400, 339040, 343080, 346550, 349510, 352000, 354070, 355770,
+                                          357140, 358230, 359070, 359680, 360120, 360380, 360510, 360530};
+static const uint16_t FIBONACCI[19] = {0, 1, 1, 2, 3, 5, 8, 13, 21, 34, 55, 89, 144, 233, 377, 610, 987, 1597, 2584};
+
+typedef struct {
+    uint32_t u, v;
+} point;
+
+/* Entry k (from 0) stands at place 2584 * (k + 2). */
+static uint32_t entry_place(uint32_t k) { return PIECE * (k + 2); }
+
+static point entry_point(uint32_t k) { return (point){TABLE_U[k], TABLE_V[k]}; }
+
+/* The locus at a place: straight between two entries, rounded to the nearest whole number, halves up. */
+static point locus_point(uint32_t place) {
+    uint32_t k = place / PIECE - 2;
+    if (k > ENTRIES - 2) k = ENTRIES - 2;
+    uint32_t along = place - entry_place(k), left = PIECE - along;
+    return (point){(TABLE_U[k] * left + TABLE_U[k + 1] * along + PIECE / 2) / PIECE,
+                   (TABLE_V[k] * left + TABLE_V[k + 1] * along + PIECE / 2) / PIECE};
+}
+
+static int64_t squared_distance(point p, point q) {
+    int64_t du = (int64_t)p.u - q.u, dv = (int64_t)p.v - q.v;
+    return du * du + dv * dv;
+}
+
+static int64_t distance_at(point reading, uint32_t place) { return squared_distance(reading, locus_point(place)); }
+
+/* (reading - corner) . (other - corner). */
+static int64_t dot(point reading, point corner, point other) {
+    return ((int64_t)reading.u - corner.u) * ((int64_t)other.u - corner.u) +
+           ((int64_t)reading.v - corner.v) * ((int64_t)other.v - corner.v);
+}
+
+typedef struct {
+    uint32_t entry;
+    int64_t distance;
+} nearest;
+
+static nearest nearest_entry(point reading) {
+    nearest found = {0, squared_distance(reading, entry_point(0))};
+    for (uint32_t k = 1; k < ENTRIES; k++) {
+        int64_t distance = squared_distance(reading, entry_point(k));
+        if (distance < found.distance) found = (nearest){k, distance};
+    }
+    return found;
+}
+
+/* Refusals 5, 6 and 7, or 0. */
+static uint8_t refusal_of(point reading, nearest found) {
+    if (found.distance > FARTHEST) return CK_TOO_FAR;
+    if (found.entry == 0 && dot(reading, entry_point(0), entry_point(1)) < 0) return CK_TOO_HOT;
+    if (found.entry == ENTRIES - 1 && dot(reading, entry_point(ENTRIES - 1), entry_point(ENTRIES - 2)) < 0) return CK_TOO_COOL;
+    return CK_ACCEPTED;
+}
+
+static int edges_valid(const uint32_t *edges, size_t count) {
+    if (count < 2 || count > 32 || edges[0] < 1600 || edges[count - 1] > 20001) return 0;
+    for (size_t i = 1; i < count; i++)
+        if (edges[i - 1] >= edges[i]) return 0;
+    return 1;
+}
+
+static uint8_t class_of(const uint32_t *edges, size_t count, uint32_t low, uint32_t high, uint32_t best) {
+    uint32_t hottest = best < low ? best : low, coolest = best > high ? best : high;
+    for (size_t j = 0; j + 1 < count; j++)
+        if (edges[j] * coolest <= KELVIN_PLACES && KELVIN_PLACES < edges[j + 1] * hottest) return (uint8_t)j;
+    return CK_NO_CLASS;
+}
+
+/* The bracket [low, high], its inner points a and b with their distances, and the nearest point that was looked at. */
+typedef struct {
+    uint32_t low, high, a, b, best;
+    int64_t at_a, at_b, at_best;
+} state;
+
+static void look(state *s, uint32_t place, int64_t distance) {
+    if (distance < s->at_best) s->best = place, s->at_best = distance;
+}
+
+static state search(point reading, nearest found, uint32_t steps) {
+    uint32_t m = found.entry, first = m == 0 ? 0 : m - 1, last = m == ENTRIES - 1 ? m : m + 1, g = last - first;
+    state s = {.low = entry_place(first), .high = entry_place(last), .best = entry_place(m), .at_best = found.distance};
+    s.a = s.low + g * FIBONACCI[16], s.at_a = distance_at(reading, s.a);
+    s.b = s.low + g * FIBONACCI[17], s.at_b = distance_at(reading, s.b);
+    look(&s, s.a, s.at_a);
+    look(&s, s.b, s.at_b);
+    for (uint32_t j = 1; j <= steps; j++) {
+        if (s.at_a < s.at_b) {
+            s.high = s.b, s.b = s.a, s.at_b = s.at_a;
+            s.a = s.low + g * FIBONACCI[16 - j], s.at_a = distance_at(reading, s.a);
+            look(&s, s.a, s.at_a);
+        } else {
+            s.low = s.a, s.a = s.b, s.at_a = s.at_b;
+            s.b = s.low + g * FIBONACCI[17 - j], s.at_b = distance_at(reading, s.b);
+            look(&s, s.b, s.at_b);
+        }
+    }
+    return s;
+}
+
+static ck_whole refused(uint8_t refusal) { return (ck_whole){.refusal = refusal}; }
+
+static ck_whole answer(point reading, const uint32_t *edges, size_t edge_count, uint32_t max_steps) {
+    nearest found = nearest_entry(reading);
+    uint8_t refusal = refusal_of(reading, found);
+    if (refusal) return refused(refusal);
+    uint32_t steps = max_steps < MOST_STEPS ? max_steps : MOST_STEPS;
+    state s = search(reading, found, steps);
+    int32_t root = (int32_t)sqrt((double)s.at_best); /* below 2^30, so the root of the double is exact enough to cut */
+    return (ck_whole){.place = s.best,
+                      .low = s.low,
+                      .high = s.high,
+                      .duv = reading.v >= locus_point(s.best).v ? root : -root,
+                      .steps = (uint8_t)steps,
+                      .class_index = class_of(edges, edge_count, s.low, s.high, s.best)};
+}
+
+static ck_answer with_floats(ck_whole whole) {
+    if (whole.refusal) return (ck_answer){.whole = whole};
+    return (ck_answer){(double)KELVIN_PLACES / whole.place, whole.duv / 1e6, whole};
+}
+
+ck_whole plain_whole(uint32_t u, uint32_t v, const uint32_t *edges, size_t edge_count, uint32_t max_steps) {
+    if (!edges_valid(edges, edge_count)) return refused(CK_BAD_EDGES);
+    if (u > WHOLE_LIMIT || v > WHOLE_LIMIT) return refused(CK_OUT_OF_RANGE);
+    return answer((point){u, v}, edges, edge_count, max_steps);
+}
+
+ck_answer plain_read_micro(uint32_t u, uint32_t v, const uint32_t *edges, size_t edge_count, uint32_t max_steps) {
+    return with_floats(plain_whole(u, v, edges, edge_count, max_steps));
+}
+
+/* floor(x * 1,000,000 + 1/2): product and sum are exact in a double wherever they matter to the floor. */
+static uint64_t to_micro(float x) { return (uint64_t)((double)x * 1e6 + 0.5); }
+
+static uint32_t nearest_quotient(uint64_t a, uint64_t b) { return (uint32_t)((2 * a + b) / (2 * b)); }
+
+ck_answer plain_read_xy(float x, float y, const uint32_t *edges, size_t edge_count, uint32_t max_steps) {
+    if (!edges_valid(edges, edge_count)) return with_floats(refused(CK_BAD_EDGES));
+    if (!isfinite(x) || !isfinite(y)) return with_floats(refused(CK_NOT_FINITE));
+    if (!(x >= 0 && x < 1 && y >= 0 && y < 1)) return with_floats(refused(CK_OUT_OF_RANGE));
+    uint64_t mx = to_micro(x), my = to_micro(y), n = 3000000 + 12 * my - 2 * mx;
+    point reading = {nearest_quotient(4 * mx * 1000000, n), nearest_quotient(6 * my * 1000000, n)};
+    return with_floats(answer(reading, edges, edge_count, max_steps));
+}

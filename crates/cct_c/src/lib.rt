@@ -1,0 +1,61 @@
+// The C ABI of the library: one function for each entry point, declared in include/cradlekeel.h.
+use cct::FloatAnswer;
+use reading::Reading;
+ghost use mathlib.Core.Path.{_≡_};
+ghost use Rattle.reading.specs.Convert.{convertReading, convertWhole};
+ghost use Rattle.cct.specs.Answers.{answer};
+ghost use Rattle.cct.specs.FloatAnswers.{floatAnswer};
+
+// CIE 1960 u, v.
+#[no_mangle]
+pub extern "C" fn ck_read_uv(u: f32, v: f32, edges: &[u32], max_steps: u32) -> FloatAnswer
+    ensures answers { λ r. ⌜ r ≡ floatAnswer (answer (now (edges .entry)) (convertReading (Reading.Uv u v)) «max_steps») ⌝ }
+    ensures unchanged { λ _. ⌜ now (edges .exit) ≡ now (edges .entry) ⌝ }
+{
+    let converted = reading::convert(Reading::Uv(u, v));
+    cct::answer_converted(converted, edges, max_steps)
+}
+
+// CIE 1976 u', v'.
+#[no_mangle]
+pub extern "C" fn ck_read_uvp(
+    u_prime: f32,
+    v_prime: f32,
+    edges: &[u32],
+    max_steps: u32,
+) -> FloatAnswer
+    ensures answers { λ r. ⌜ r ≡ floatAnswer (answer (now (edges .entry)) (convertReading (Reading.UvPrime «u_prime» «v_prime»)) «max_steps») ⌝ }
+    ensures unchanged { λ _. ⌜ now (edges .exit) ≡ now (edges .entry) ⌝ }
+{
+    let converted = reading::convert(Reading::UvPrime(u_prime, v_prime));
+    cct::answer_converted(converted, edges, max_steps)
+}
+
+// CIE 1931 x, y.
+#[no_mangle]
+pub extern "C" fn ck_read_xy(x: f32, y: f32, edges: &[u32], max_steps: u32) -> FloatAnswer
+    ensures answers { λ r. ⌜ r ≡ floatAnswer (answer (now (edges .entry)) (convertReading (Reading.Xy x y)) «max_steps») ⌝ }
+    ensures unchanged { λ _. ⌜ now (edges .exit) ≡ now (edges .entry) ⌝ }
+{
+    let converted = reading::convert(Reading::Xy(x, y));
+    cct::answer_converted(converted, edges, max_steps)
+}
+
+// Tristimulus values X, Y, Z.
+#[no_mangle]
+pub extern "C" fn ck_read_xyz(x: f32, y: f32, z: f32, edges: &[u32], max_steps: u32) -> FloatAnswer
+    ensures answers { λ r. ⌜ r ≡ floatAnswer (answer (now (edges .entry)) (convertReading (Reading.Xyz x y z)) «max_steps») ⌝ }
+    ensures unchanged { λ _. ⌜ now (edges .exit) ≡ now (edges .entry) ⌝ }
+{
+    let converted = reading::convert(Reading::Xyz(x, y, z));
+    cct::answer_converted(converted, edges, max_steps)
+}
+
+// CIE 1960 u and v as whole numbers in micro.
+#[no_mangle]
+pub extern "C" fn ck_read_micro(u: u32, v: u32, edges: &[u32], max_steps: u32) -> FloatAnswer
+    ensures answers { λ r. ⌜ r ≡ floatAnswer (answer (now (edges .entry)) (convertWhole u v) «max_steps») ⌝ }
+    ensures unchanged { λ _. ⌜ now (edges .exit) ≡ now (edges .entry) ⌝ }
+{
+    cct::answer_uv(u, v, edges, max_steps)
+}
