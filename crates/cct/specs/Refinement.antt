@@ -1,5 +1,5 @@
--- Demand 3: what two answers to the same edges and reading, at n₁ ≤ n₂ steps allowed, have in common. `RefinementProof.refines`
--- proves it of the definition `answer`, for whatever any entry point converts its reading to.
+-- Demand 3: what two answers to the same edges and reading, at n₁ ≤ n₂ steps allowed, have in common.
+-- `RefinementProof.demand-3` proves it of the definition `answer`, for whatever any entry point converts its reading to.
 use mathlib.Core.Path.{_≡_}
 use mathlib.Core.List.{List}
 use Prim.Native.Nat.{ℕ, _+_, _-_, _*_, _≤_, min}
@@ -28,7 +28,7 @@ pub record Narrower (u v : ℕ) (a b : Answer) : Type 0 where
   pub nearer : distanceAt u v (b .place) ≤ distanceAt u v (a .place)
   pub class-kept : (a .class ≡ noClass → ⊥) → b .class ≡ a .class
 
--- the same refusal in both, or both accepted and the second refines the first
+-- the same refusal in both, whose number is never 0, or both accepted and the second refines the first
 pub data Refines (c : Converted) (n₁ n₂ : ℕ) (a b : Answer) : Type 0 where
   both-refused : (r : Refusal) → a ≡ refused r → b ≡ refused r → Refines c n₁ n₂ a b
   both-accepted : (u v : ℕ) → c ≡ Point u v → Accepted u v n₁ a → Accepted u v n₂ b → Narrower u v a b → Refines c n₁ n₂ a b

@@ -31,6 +31,15 @@ fn put_answer(answer: FloatAnswer, out: &mut [u8; 65536], at: usize) -> usize {
     put::last_float(out, kelvin, answer.duv)
 }
 
+// The floats of one answer with the whole numbers of another, so that a line is right only where both entry points are.
+fn joined(whole: Answer, floats: FloatAnswer) -> FloatAnswer {
+    FloatAnswer {
+        kelvin: floats.kelvin,
+        duv: floats.duv,
+        whole: whole,
+    }
+}
+
 // An answer from three floats or two, then the most steps, then the edges.
 fn answer_floats(kind: u64, values: [u32; 64], count: usize) -> FloatAnswer {
     let reading = conversions::reading_of(kind, values[0], values[1], values[2]);
@@ -51,7 +60,9 @@ fn answer_with_edges(
     requires { ⌜ start ≤ 64 ⌝ }
 {
     let end = fields::bounded(count, start);
-    cct::answer_reading(reading, &values[start..end], max_steps)
+    let whole = cct::whole_answer_reading(reading, &values[start..end], max_steps);
+    let floats = cct::answer_reading(reading, &values[start..end], max_steps);
+    joined(whole, floats)
 }
 
 // An answer from u and v in micro, the most steps, then the edges.
@@ -61,7 +72,9 @@ fn answer_whole(values: [u32; 64], count: usize) -> FloatAnswer {
     let max_steps = values[2];
     let start = 3;
     let end = fields::bounded(count, start);
-    cct::answer_uv(u, v, &values[start..end], max_steps)
+    let whole = cct::whole_answer_uv(u, v, &values[start..end], max_steps);
+    let floats = cct::answer_uv(u, v, &values[start..end], max_steps);
+    joined(whole, floats)
 }
 
 // The answer of the entry point that a kind names.
