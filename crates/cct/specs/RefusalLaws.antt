@@ -1,0 +1,82 @@
+-- Demand 2: each refusal is given exactly under its condition, when no earlier condition of document 01's table holds.
+use mathlib.Core.Path.{_≡_, refl, sym, ap, subst, _∙_}
+use mathlib.Core.Bool.{Bool, true, false}
+use mathlib.Core.List.{List}
+use Prim.Native.Nat.{ℕ}
+use native.Mathlib.Omega.{arith}
+use Rattle.refusal.specs.Number.{numberOf, number-positive, number-injective}
+use Rattle.refusal.specs.declared.Refusal.{Refusal}
+use Rattle.refusal.specs.declared.Refusal.the-variants.{BadEdges, TooFar, TooHot, TooCool}
+use Rattle.reading.specs.declared.Converted.{Converted}
+use Rattle.reading.specs.declared.Converted.the-variants as converted
+use Rattle.locus.specs.Admission.{nearestEntry, tooFar, past, admission}
+use Rattle.classes.specs.Edges.{edgesValid}
+use Rattle.cct.specs.declared.Answer.{Answer}
+use Rattle.cct.specs.Answers.{checkedPoint, checked, refused, accepted, answer}
+
+-- the edges are valid, and the reading was converted to the point (u, v)
+pub record At (es : List ℕ) (c : Converted) (u v : ℕ) : Type 0 where
+  pub edges : edgesValid es ≡ true
+  pub point : c ≡ converted.Point u v
+
+-- the condition of each refusal, with those before it not met; what the conversion refused comes between 1 and 5
+pub data Condition (es : List ℕ) (c : Converted) : Refusal → Type 0 where
+  bad-edges : edgesValid es ≡ false → Condition es c BadEdges
+  not-converted : (r : Refusal) → edgesValid es ≡ true → c ≡ converted.Refused r → Condition es c r
+  too-far : (u v : ℕ) → At es c u v → tooFar u v ≡ true → Condition es c TooFar
+  too-hot : (u v : ℕ) → At es c u v → tooFar u v ≡ false → past u v 1 2 ≡ true → Condition es c TooHot
+  too-cool : (u v : ℕ) → At es c u v → tooFar u v ≡ false → past u v 1 2 ≡ false → past u v 24 23 ≡ true → Condition es c TooCool
+
+-- under its condition a refusal is given, whatever the steps allowed
+pub condition-refused : (es : List ℕ) (c : Converted) (r : Refusal) → Condition es c r → (n : ℕ) → answer es c n ≡ refused r
+unfolding answer checked checkedPoint admission
+condition-refused es c r (bad-edges e) n = rw e refl
+condition-refused es c r (not-converted s e f) n = rw (e, f) refl
+condition-refused es c r (too-far u v a f) n = rw (a .edges, a .point, f) refl
+condition-refused es c r (too-hot u v a f h) n = rw (a .edges, a .point, f, h) refl
+condition-refused es c r (too-cool u v a f h k) n = rw (a .edges, a .point, f, h, k) refl
+
+-- no condition is met: the reading is answered
+pub record Clear (es : List ℕ) (c : Converted) (u v : ℕ) : Type 0 where
+  pub at : At es c u v
+  pub near : tooFar u v ≡ false
+  pub not-hot : past u v 1 2 ≡ false
+  pub not-cool : past u v 24 23 ≡ false
+
+pub clear-accepted : (es : List ℕ) (c : Converted) (u v : ℕ) → Clear es c u v → (n : ℕ) → answer es c n ≡ accepted es n u v (nearestEntry u v)
+unfolding answer checked checkedPoint admission
+clear-accepted es c u v k n = rw (k .at .edges, k .at .point, k .near, k .not-hot, k .not-cool) refl
+
+-- a refusal with its condition, or a clear point
+pub data Decided (es : List ℕ) (c : Converted) : Type 0 where
+  refusal : (r : Refusal) → Condition es c r → Decided es c
+  clear : (u v : ℕ) → Clear es c u v → Decided es c
+
+at-point : (es : List ℕ) (c : Converted) (u v : ℕ) → At es c u v → (far hot cool : Bool) → tooFar u v ≡ far → past u v 1 2 ≡ hot → past u v 24 23 ≡ cool → Decided es c
+at-point es c u v a true hot cool e f g = refusal TooFar (too-far u v a e)
+at-point es c u v a false true cool e f g = refusal TooHot (too-hot u v a e f)
+at-point es c u v a false false true e f g = refusal TooCool (too-cool u v a e f g)
+at-point es c u v a false false false e f g = clear u v (record { at = a; near = e; not-hot = f; not-cool = g })
+
+-- one of them holds for every input
+pub decided : (es : List ℕ) (c : Converted) → Decided es c
+decided es c = go (edgesValid es) refl c refl
+  where
+    go : (b : Bool) → edgesValid es ≡ b → (k : Converted) → c ≡ k → Decided es c
+    go false e k f = refusal BadEdges (bad-edges e)
+    go true e (converted.Refused r) f = refusal r (not-converted r e f)
+    go true e (converted.Point u v) f = at-point es c u v (record { edges = e; point = f }) (tooFar u v) (past u v 1 2) (past u v 24 23) refl refl refl
+
+-- a refusal that is given has its condition
+pub refused-condition : (es : List ℕ) (c : Converted) (n : ℕ) (r : Refusal) → answer es c n ≡ refused r → Condition es c r
+unfolding accepted
+refused-condition es c n r e = go (decided es c)
+  where
+    number : {a : Answer} → a ≡ refused r → a .refusal ≡ numberOf r
+    number f = ap (λ (x : Answer). x .refusal) f
+
+    go : Decided es c → Condition es c r
+    go (refusal s k) = subst (Condition es c) (number-injective s r (number (sym (condition-refused es c s k n) ∙ e))) k
+    go (clear u v k) =
+        let z : 0 ≡ numberOf r = number (sym (clear-accepted es c u v k n) ∙ e) in
+        absurd (omega (arith, number-positive r))
