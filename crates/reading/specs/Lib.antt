@@ -3,3 +3,4 @@ pub mod WholeLaws
 pub mod Product
 pub mod Convert
 pub mod ConvertLaws
+pub mod RefusalLaws
