@@ -4,7 +4,8 @@ use mathlib.Core.Bool.{Bool, true, false}
 use mathlib.Core.List.{List}
 use Prim.Native.Nat.{ℕ}
 use native.Mathlib.Omega.{arith}
-use Rattle.refusal.specs.Number.{numberOf, number-positive, number-injective}
+use Rattle.refusal.specs.Number.{numberOf}
+use Rattle.refusal.specs.NumberLaws.{number-positive, number-injective}
 use Rattle.refusal.specs.declared.Refusal.{Refusal}
 use Rattle.refusal.specs.declared.Refusal.the-variants.{BadEdges, TooFar, TooHot, TooCool}
 use Rattle.reading.specs.declared.Converted.{Converted}

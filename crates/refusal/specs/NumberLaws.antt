@@ -1,0 +1,42 @@
+-- No refusal has the number 0, and no two have the same.
+use mathlib.Core.Path.{_≡_, refl, sym, ap, _∙_}
+use mathlib.Core.Bool.{cond}
+use Prim.Native.Nat.{ℕ, _<_}
+use lib.Dec.{eqb, lit<}
+use Rattle.refusal.specs.Number.{numberOf}
+use Rattle.refusal.specs.declared.Refusal.{Refusal}
+use Rattle.refusal.specs.declared.Refusal.the-variants.{BadEdges, NotFinite, OutOfRange, TooDark, TooFar, TooHot, TooCool, Unreadable}
+
+-- no refusal has the number of an accepted answer, 0
+pub number-positive : (r : Refusal) → 0 < numberOf r
+number-positive BadEdges = lit< tt
+number-positive NotFinite = lit< tt
+number-positive OutOfRange = lit< tt
+number-positive TooDark = lit< tt
+number-positive TooFar = lit< tt
+number-positive TooHot = lit< tt
+number-positive TooCool = lit< tt
+number-positive Unreadable = lit< tt
+
+-- two refusals with one number are one refusal
+refusalOf : ℕ → Refusal
+refusalOf n =
+    cond (eqb n 1) BadEdges
+    (cond (eqb n 2) NotFinite
+    (cond (eqb n 3) OutOfRange
+    (cond (eqb n 4) TooDark
+    (cond (eqb n 5) TooFar (cond (eqb n 6) TooHot (cond (eqb n 7) TooCool Unreadable))))))
+
+of-number : (r : Refusal) → refusalOf (numberOf r) ≡ r
+unfolding refusalOf
+of-number BadEdges = refl
+of-number NotFinite = refl
+of-number OutOfRange = refl
+of-number TooDark = refl
+of-number TooFar = refl
+of-number TooHot = refl
+of-number TooCool = refl
+of-number Unreadable = refl
+
+pub number-injective : (r s : Refusal) → numberOf r ≡ numberOf s → r ≡ s
+number-injective r s e = sym (of-number r) ∙ ap refusalOf e ∙ of-number s
