@@ -29,7 +29,7 @@ use Rattle.cct.specs.declared.FloatAnswer.{FloatAnswer}
 use Rattle.cct.specs.FloatAnswers.{floatAnswer}
 use Rattle.cct.specs.Refinement.{Accepted, Narrower, Refines, both-refused, both-accepted, Demand3}
 
--- what the checks have shown where they pass: the edges are valid, and (u, v) is the point, with its nearest entry m
+-- what the checks have shown where they pass: the edges are valid, (u, v) is the point, and its nearest entry m is within the limit
 pub record Passed (es : List ℕ) (c : Converted) (u v m : ℕ) : Type 0 where
   pub edges : edgesValid es ≡ true
   pub point : c ≡ converted.Point u v

@@ -5,7 +5,7 @@ use mathlib.Core.Bool.{cond}
 use lib.IntN.{ℤ, pos, negsuc}
 use lib.Dec.{ltb}
 
--- the last k digits of n, with no zero in front
+-- the digits of n with no zero in front, where k are enough; otherwise its last k digits
 abbrev pub digitsOf : ℕ → ℕ → List ℕ
 digitsOf zero n = []
 digitsOf (suc k) n = cond (ltb n 10) ((48 + n) ∷ []) (digitsOf k (n / 10) ++ ((48 + n % 10) ∷ []))
