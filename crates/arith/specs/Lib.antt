@@ -1,7 +1,10 @@
+pub mod Units
 pub mod Rounding
 pub mod RoundingLaws
 pub mod Root
 pub mod RootLaws
 pub mod Least
 pub mod LeastLaws
-pub mod Tests
+pub mod Every
+pub mod EveryLaws
+pub mod TestLaws

@@ -18,17 +18,17 @@ use Rattle.locus.specs.declared.Span.{Span}
 use Rattle.locus.specs.declared.Admission.the-variants as admitted
 use Rattle.locus.specs.Locus.{locusV, distanceAt, entryDistance}
 use Rattle.locus.specs.LocusLaws.{entry-distance}
-use Rattle.locus.specs.Pieces.{SpanAbout}
+use Rattle.locus.specs.Code.Pieces.{SpanAbout}
 use Rattle.locus.specs.Admission.{limit, admission}
 use Rattle.locus.specs.AdmissionLaws.{nearest-range, admitted-near}
 use Rattle.search.specs.declared.Search.{Search}
 use Rattle.search.specs.Golden.{stepsOf}
 use Rattle.search.specs.GoldenLaws.{after-inside, after-near}
-use Rattle.search.specs.Progress.{found, Begins}
+use Rattle.search.specs.Code.Progress.{found, Begins}
 use Rattle.classes.specs.Edges.{edgesValid}
 use Rattle.classes.specs.Classes.{classOf}
 use Rattle.cct.specs.Answers.{checkedPoint, checked, duvAt, refused, accepted, answered, answer}
-use Rattle.cct.specs.OnSpan.{OnSpan}
+use Rattle.cct.specs.Code.OnSpan.{OnSpan}
 
 -- a number below 2 ^ 31 with a minus sign fits an i32
 pub minus-fits : (d : ℕ) → d < 2147483648 → SFits w32 (negℤ (pos d))

@@ -6,7 +6,7 @@ use mathlib.Core.List.{List}
 use Prim.Native.Nat.{ℕ, _+_, _-_, _≤_}
 use native.Mathlib.Omega.{arith}
 use lib.Dec.{eqb}
-use Rattle.arith.specs.Tests.{cond-both}
+use Rattle.arith.specs.TestLaws.{cond-both}
 use Rattle.refusal.specs.declared.Refusal.the-variants.{BadEdges}
 use Rattle.reading.specs.declared.Reading.{Reading}
 use Rattle.reading.specs.declared.Converted.{Converted}
@@ -18,7 +18,7 @@ use Rattle.locus.specs.AdmissionLaws.{nearest-range, admitted-near}
 use Rattle.locus.specs.declared.Admission.{Admission}
 use Rattle.locus.specs.declared.Admission.the-variants as admitted
 use Rattle.search.specs.Golden.{stepsOf}
-use Rattle.search.specs.GoldenLaws.{steps-refine, steps-width, steps-same}
+use Rattle.search.specs.GoldenLaws.{steps-advance, steps-width, steps-same}
 use Rattle.classes.specs.Edges.{edgesValid}
 use Rattle.classes.specs.EdgeLaws.{valid-rise}
 use Rattle.classes.specs.Classes.{noClass}
@@ -71,7 +71,7 @@ module _ (es : List ℕ) (c : Converted) (u v m : ℕ) (p : Passed es c u v m) w
   unfolding accepted
   narrows n₁ n₂ h =
       let r = in-range in
-      let s = steps-refine (distanceAt u v) m (r .0) (r .1) h in
+      let s = steps-advance (distanceAt u v) m (r .0) (r .1) h in
       let w = steps-width (distanceAt u v) m (r .0) (r .1) n₂ in
       record {
         low = s .low;

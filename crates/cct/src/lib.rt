@@ -12,9 +12,9 @@ ghost use lib.IntN.{pos, negℤ};
 ghost use lib.ListN.{length};
 ghost use Rattle.reading.specs.Convert.{convertReading, convertWhole};
 ghost use Rattle.locus.specs.Admission.{limit};
-ghost use Rattle.search.specs.Progress.{Begins};
+ghost use Rattle.search.specs.Code.Progress.{Begins};
 ghost use Rattle.cct.specs.Answers.{duvAt, refused, accepted, answered, checkedPoint, answer};
-ghost use Rattle.cct.specs.OnSpan.{OnSpan};
+ghost use Rattle.cct.specs.Code.OnSpan.{OnSpan};
 ghost use Rattle.cct.specs.FloatAnswers.{floatAnswer};
 
 // The temperature at a place is this over the place, in kelvin.

@@ -9,7 +9,7 @@ use native.Mathlib.Numerals.{add-one}
 use native.Mathlib.Omega.{arith}
 use lib.ListN.{length}
 use borrow.Author.Tests.{leb-true, le-leb, ltb-true, lt-ltb}
-use Rattle.arith.specs.Tests.{and-both, both-and, cond-both}
+use Rattle.arith.specs.TestLaws.{and-both, both-and, cond-both}
 use Rattle.classes.specs.Edges.{edge, rising}
 use Rattle.classes.specs.EdgeLaws.{edge-le}
 use Rattle.classes.specs.Classes.{kelvinPlaces, atLeast, below, holds, holdsAll, noClass, lastPassing, classOf}

@@ -10,7 +10,7 @@ use native.Mathlib.Omega.{arith}
 use lib.Dec.{leb}
 use lib.ListN.{length}
 use borrow.Author.Tests.{ltb-true, leb-true, le-leb}
-use Rattle.arith.specs.Tests.{and-both}
+use Rattle.arith.specs.TestLaws.{and-both}
 use Rattle.classes.specs.Edges.{allBelow, edge, risesAt, rising, inRangeAt, edgesValid}
 
 -- one number more, as code counts

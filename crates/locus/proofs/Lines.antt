@@ -9,7 +9,7 @@ use Rattle.locus.specs.Stored.{tableU, tableV, entryIn, entryPlace, stor
 use Rattle.locus.specs.StoredLaws.{Steady, steady-u, steady-v}
 use Rattle.locus.specs.Locus.{pieceOf, between, locusAt}
 use Rattle.locus.specs.LocusLaws.{between-end, locus-entry}
-use Rattle.locus.specs.Pieces.{Rises, lineThrough, LineFollows, PieceFollows}
+use Rattle.locus.specs.Code.Pieces.{Rises, lineThrough, LineFollows, PieceFollows}
 use Rattle.locus.specs.declared.Line.{Line}
 use Rattle.locus.specs.declared.Piece.{Piece}
 use Rattle.locus.specs.declared.Point.{Point}

@@ -1,9 +1,9 @@
 pub mod Stored
 pub mod Locus
 pub mod Admission
-pub mod Pieces
 pub mod EveryEntry
 pub mod StoredLaws
 pub mod LocusLaws
 pub mod AdmissionLaws
 pub mod BehindLaw
+pub mod Code

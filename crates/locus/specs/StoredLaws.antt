@@ -8,9 +8,9 @@ use lib.Dec.{leb}
 use lib.ListN.{length, getD, take, length-take, List·getD-map}
 use lib.Seq.{getD-take}
 use borrow.Author.Tests.{leb-true}
-use Rattle.arith.specs.Tests.{and-both}
+use Rattle.arith.specs.TestLaws.{and-both}
 use Rattle.locus.specs.Stored.{storedU, storedV, tableU, tableV, entryIn}
-use Rattle.locus.specs.Pieces.{Rises}
+use Rattle.locus.specs.Code.Pieces.{Rises}
 use Rattle.locus.specs.EveryEntry.{everyEntry, every-entry}
 
 -- an entry in micro is ten times its stored number

@@ -7,7 +7,7 @@ ghost use Prim.Native.Nat.{_+_, _-_, _*_, _≤_, _<_};
 ghost use Rattle.locus.specs.Stored.{tableU, tableV, storedPoint, entryPlace, firstEntry, lastEntry};
 ghost use Rattle.locus.specs.Locus.{pieceOf, locusU, locusV, locusPoint, difference, squaredDistance, distanceAt};
 ghost use Rattle.locus.specs.Admission.{nearestOf, dot, behind, admission};
-ghost use Rattle.locus.specs.Pieces.{Rises, lineThrough, lineAt, PieceFollows, SpanFollows, SpanAbout};
+ghost use Rattle.locus.specs.Code.Pieces.{Rises, lineThrough, lineAt, PieceFollows, SpanFollows, SpanAbout};
 
 // A reading is too far from the locus where its squared distance to the nearest entry exceeds this (refusal 5).
 const LIMIT: u64 = 900000000;

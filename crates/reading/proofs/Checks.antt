@@ -1,7 +1,7 @@
 -- Tests that the code makes together, in the words of the definitions.
 use mathlib.Core.Path.{_≡_, sym, ap, _∙_}
 use mathlib.Core.Bool.{Bool, true, false, not, _&&_, Bool·not-not}
-use Rattle.arith.specs.Tests.{and-both}
+use Rattle.arith.specs.TestLaws.{and-both}
 
 pub join : {a b p q : Bool} → a ≡ p → b ≡ q → a && b ≡ p && q
 join e f = cc

@@ -12,9 +12,9 @@ use lib.Ieee.Fits.{down-pos}
 use lib.Ieee.Exact.{HasValue}
 use lib.Ieee.Nearest.{div-same}
 use Rattle.arith.specs.Rounding.{nearestQuotient}
-use Rattle.arith.specs.Tests.{and-both}
+use Rattle.arith.specs.TestLaws.{and-both}
 use Rattle.reading.specs.Whole.{inRange, toWhole}
-use Rattle.reading.specs.Product.{IsProduct}
+use Rattle.reading.specs.Code.Product.{IsProduct}
 use Rattle.reading.specs.declared.Quantity.{Quantity}
 
 -- A float of the value ±A / B, above -1 and below 2 ^ 64, cut to a whole number

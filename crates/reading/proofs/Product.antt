@@ -14,7 +14,7 @@ use lib.Ieee.Exact.{HasValue, round-exact}
 use lib.Ieee.Back.{round-whole}
 use lib.Ieee.Scale.{round-same}
 use Rattle.reading.specs.Whole.{finite}
-use Rattle.reading.specs.Product.{IsProduct}
+use Rattle.reading.specs.Code.Product.{IsProduct}
 
 -- a whole number as a float of either format
 pub whole-float : (f : Format) (n : ℕ) → n ≤ 2 ^ prec f → HasValue (ofInt f (pos n)) false n 1

@@ -3,7 +3,8 @@ use mathlib.Core.Path.{_≡_, refl, sym, ap, _∙_, subst}
 use mathlib.Core.Bool.{Bool, true, false, _&&_}
 use Prim.Native.Nat.{ℕ}
 use lib.Ieee.{Float}
-use Rattle.reading.specs.Whole.{micro, coordinate, finite, inRange, toWhole}
+use Rattle.arith.specs.Units.{micro}
+use Rattle.reading.specs.Whole.{coordinate, finite, inRange, toWhole}
 use Rattle.reading.specs.Convert.{checked, ofUv, ofCoordinates}
 use Rattle.reading.specs.ConvertLaws.{UpTo, coordinates-up-to}
 use Rattle.reading.specs.declared.Converted.{Converted}

@@ -3,9 +3,10 @@ use Prim.Native.Nat.{ℕ, _+_, _-_, _*_}
 use mathlib.Core.Bool.{Bool, _&&_, cond}
 use lib.Dec.{leb, ltb}
 use lib.Ieee.{Float}
+use Rattle.arith.specs.Units.{micro}
 use Rattle.arith.specs.Rounding.{nearestQuotient}
 use Rattle.refusal.specs.declared.Refusal.the-variants.{NotFinite, OutOfRange, TooDark}
-use Rattle.reading.specs.Whole.{micro, coordinate, tristimulus, finite, inRange, toWhole}
+use Rattle.reading.specs.Whole.{coordinate, tristimulus, finite, inRange, toWhole}
 use Rattle.reading.specs.declared.Reading.{Reading}
 use Rattle.reading.specs.declared.Reading.the-variants.{Uv, UvPrime, Xy, Xyz}
 use Rattle.reading.specs.declared.Converted.{Converted}

@@ -6,10 +6,11 @@ use native.Mathlib.Omega.{arith}
 use lib.Dec.{leb, ltb}
 use lib.Ieee.{Float}
 use borrow.Author.Tests.{leb-true, ltb-false}
+use Rattle.arith.specs.Units.{micro}
 use Rattle.arith.specs.RoundingLaws.{nearest-le}
-use Rattle.arith.specs.Tests.{and-both}
+use Rattle.arith.specs.TestLaws.{and-both}
 use Rattle.refusal.specs.declared.Refusal.the-variants.{OutOfRange, TooDark}
-use Rattle.reading.specs.Whole.{micro, coordinate, tristimulus, finite, inRange, toWhole}
+use Rattle.reading.specs.Whole.{coordinate, tristimulus, finite, inRange, toWhole}
 use Rattle.reading.specs.WholeLaws.{whole-le}
 use Rattle.reading.specs.Convert.{wholeLimit, leastY, checked, pointOver, ofUv, ofUvPrime, ofXy, ofXyz, ofCoordinates, ofTristimulus, convertReading, convertWhole}
 use Rattle.reading.specs.declared.Reading.{Reading}

@@ -4,12 +4,9 @@ use Prim.Native.Nat.{ℕ, _*_}
 use mathlib.Core.Bool.{Bool, true, false, not, _&&_}
 use lib.Dec.{ltb}
 use lib.Ieee.{Float, nan, inf, fin, up, down}
+use Rattle.arith.specs.Units.{micro}
 use Rattle.arith.specs.Rounding.{nearestQuotient}
 use Rattle.reading.specs.declared.Quantity.{Quantity}
-
--- "Readings": one micro is 0.000001 of a coordinate.
-abbrev pub micro : ℕ
-micro = 1000000
 
 -- "Readings": S is 1,000,000 for coordinates, which satisfy 0 ≤ x < 1.
 abbrev pub coordinate : Quantity

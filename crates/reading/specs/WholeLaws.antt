@@ -8,7 +8,7 @@ use lib.Ieee.{Float, nan, inf, fin, up, down}
 use lib.Ieee.Fits.{down-pos}
 use borrow.Author.Tests.{ltb-true}
 use Rattle.arith.specs.RoundingLaws.{nearest-le}
-use Rattle.arith.specs.Tests.{and-both}
+use Rattle.arith.specs.TestLaws.{and-both}
 use Rattle.reading.specs.Whole.{finite, inRange, toWhole}
 use Rattle.reading.specs.declared.Quantity.{Quantity}
 

@@ -4,7 +4,7 @@ ghost use mathlib.Core.Path.{_≡_};
 ghost use mathlib.Core.Bool.{true};
 ghost use Prim.Native.Nat.{_+_, _*_, _^_, _≤_, _<_};
 ghost use Rattle.reading.specs.Whole.{finite, inRange, toWhole};
-ghost use Rattle.reading.specs.Product.{IsProduct};
+ghost use Rattle.reading.specs.Code.Product.{IsProduct};
 ghost use Rattle.reading.specs.Convert.{pointOver, ofUv, ofUvPrime, ofXy, ofXyz, ofCoordinates, ofTristimulus, convertReading, convertWhole};
 
 // A reading of one of the four kinds.

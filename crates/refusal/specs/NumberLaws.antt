@@ -5,7 +5,7 @@ use Prim.Native.Nat.{ℕ, _<_}
 use lib.Dec.{eqb, lit<}
 use Rattle.refusal.specs.Number.{numberOf}
 use Rattle.refusal.specs.declared.Refusal.{Refusal}
-use Rattle.refusal.specs.declared.Refusal.the-variants.{BadEdges, NotFinite, OutOfRange, TooDark, TooFar, TooHot, TooCool, Unreadable}
+use Rattle.refusal.specs.declared.Refusal.the-variants.{BadEdges, NotFinite, OutOfRange, TooDark, TooFar, TooHot, TooCool, BadLine}
 
 -- no refusal has the number of an accepted answer, 0
 pub number-positive : (r : Refusal) → 0 < numberOf r
@@ -16,7 +16,7 @@ number-positive TooDark = lit< tt
 number-positive TooFar = lit< tt
 number-positive TooHot = lit< tt
 number-positive TooCool = lit< tt
-number-positive Unreadable = lit< tt
+number-positive BadLine = lit< tt
 
 -- two refusals with one number are one refusal
 refusalOf : ℕ → Refusal
@@ -25,7 +25,7 @@ refusalOf n =
     (cond (eqb n 2) NotFinite
     (cond (eqb n 3) OutOfRange
     (cond (eqb n 4) TooDark
-    (cond (eqb n 5) TooFar (cond (eqb n 6) TooHot (cond (eqb n 7) TooCool Unreadable))))))
+    (cond (eqb n 5) TooFar (cond (eqb n 6) TooHot (cond (eqb n 7) TooCool BadLine))))))
 
 of-number : (r : Refusal) → refusalOf (numberOf r) ≡ r
 unfolding refusalOf
@@ -36,7 +36,7 @@ of-number TooDark = refl
 of-number TooFar = refl
 of-number TooHot = refl
 of-number TooCool = refl
-of-number Unreadable = refl
+of-number BadLine = refl
 
 pub number-injective : (r s : Refusal) → numberOf r ≡ numberOf s → r ≡ s
 number-injective r s e = sym (of-number r) ∙ ap refusalOf e ∙ of-number s

@@ -18,7 +18,7 @@ pub enum Refusal {
     // Past the last entry, at 1600 K.
     TooCool,
     // A line of text that cannot be read.
-    Unreadable,
+    BadLine,
 }
 
 impl Refusal {
@@ -33,7 +33,7 @@ impl Refusal {
             Refusal::TooFar => 5,
             Refusal::TooHot => 6,
             Refusal::TooCool => 7,
-            Refusal::Unreadable => 8,
+            Refusal::BadLine => 8,
         }
     }
 }

@@ -8,7 +8,7 @@ use Rattle.locus.specs.Stored.{entryPlace, firstEntry}
 use Rattle.locus.specs.declared.Span.{Span}
 use Rattle.search.specs.Golden.{pieces, fibonacci, innerLow, innerHigh, State, nearer, start, step, after}
 use Rattle.search.specs.GoldenLaws.{lengths, after-next, after-inside}
-use Rattle.search.specs.Progress.{found, Begins, stateOf, Tracks, Lies, moved}
+use Rattle.search.specs.Code.Progress.{found, Begins, stateOf, Tracks, Lies, moved}
 use Rattle.search.specs.declared.Progress.{Progress}
 
 same-state : {s t : State} → s .low ≡ t .low → s .high ≡ t .high → s .best ≡ t .best → s ≡ t

@@ -8,7 +8,7 @@ use native.Mathlib.Numerals.{add-one}
 use native.Mathlib.Omega.{arith}
 use lib.Dec.{ltb}
 use borrow.Author.Tests.{ltb-true}
-use Rattle.arith.specs.Tests.{cond-both}
+use Rattle.arith.specs.TestLaws.{cond-both}
 use Rattle.locus.specs.Stored.{entryPlace, firstEntry, lastEntry}
 use Rattle.search.specs.Golden.{pieces, fibonacci, width, innerLow, innerHigh, State, nearer, start, step, after, stepsOf}
 
@@ -66,17 +66,17 @@ abbrev pub Wide : ℕ → ℕ → State → Type 0
 Wide g j s = s .high ≡ s .low + width g j
 
 -- a later state t refines s: its bracket lies within that of s, its best point is no farther, and is that of s or lies in the bracket of s
-pub record Refines (d : ℕ → ℕ) (s t : State) : Type 0 where
+pub record Advances (d : ℕ → ℕ) (s t : State) : Type 0 where
   pub low : s .low ≤ t .low
   pub high : t .high ≤ s .high
   pub nearer : d (t .best) ≤ d (s .best)
   pub best : (t .best ≡ s .best) ⊎ ((s .low ≤ t .best) × (t .best ≤ s .high))
 
-pub refines-refl : (d : ℕ → ℕ) (s : State) → Refines d s s
-refines-refl d s = record { low = le-refl _; high = le-refl _; nearer = le-refl _; best = inl refl }
+pub advances-refl : (d : ℕ → ℕ) (s : State) → Advances d s s
+advances-refl d s = record { low = le-refl _; high = le-refl _; nearer = le-refl _; best = inl refl }
 
-pub refines-trans : {d : ℕ → ℕ} {r s t : State} → Refines d r s → Refines d s t → Refines d r t
-refines-trans {d} {r} {s} {t} x y =
+pub advances-trans : {d : ℕ → ℕ} {r s t : State} → Advances d r s → Advances d s t → Advances d r t
+advances-trans {d} {r} {s} {t} x y =
     record {
       low = le-trans (x .low) (y .low);
       high = le-trans (y .high) (x .high);
@@ -92,15 +92,15 @@ module _ (d : ℕ → ℕ) (g j : ℕ) (s : State) (h : j ≤ 14) (w : Wide g j 
       let l = lengths g j h in
       cond-both (Wide g (j + 1)) (ltb (d (innerLow g j (s .low))) (d (innerHigh g j (s .low)))) (omega arith) (omega arith)
 
-  pub step-refines : Refines d s (step d g j s)
+  pub step-advances : Advances d s (step d g j s)
   unfolding step
-  step-refines =
+  step-advances =
       let l = lengths g j h in
       let a : ℕ = innerLow g j (s .low) in
       let b : ℕ = innerHigh g j (s .low) in
       let a′ : ℕ = innerLow g (j + 1) (s .low) in
       let b′ : ℕ = innerHigh g (j + 1) a in
-      cond-both (Refines d s) (ltb (d a) (d b))
+      cond-both (Advances d s) (ltb (d a) (d b))
       (record {
         low = le-refl _;
         high = omega arith;
@@ -136,13 +136,13 @@ module _ (d : ℕ → ℕ) (m : ℕ) (m≥1 : 1 ≤ m) (m≤24 : m ≤ 24) where
   after-width (suc j) h = rw (add-one j) at (step-wide d (pieces m) j (after d m j) (omega arith) (after-width j (omega arith)))
 
   -- more steps refine the state
-  pub after-refines : (i k : ℕ) → i + k ≤ 14 → Refines d (after d m i) (after d m (i + k))
-  after-refines i zero h = rw add-zero (refines-refl d (after d m i))
-  after-refines i (suc k) h =
+  pub after-advances : (i k : ℕ) → i + k ≤ 14 → Advances d (after d m i) (after d m (i + k))
+  after-advances i zero h = rw add-zero (advances-refl d (after d m i))
+  after-advances i (suc k) h =
       let n : ℕ = i + k in
       let w = after-width n (omega arith) in
       let e : i + suc k ≡ n + 1 = omega arith in
-      refines-trans (after-refines i k (omega arith)) (rw (e, after-next d m n) (step-refines d (pieces m) n (after d m n) (omega arith) w))
+      advances-trans (after-advances i k (omega arith)) (rw (e, after-next d m n) (step-advances d (pieces m) n (after d m n) (omega arith) w))
 
   start-inside : Inside (entryPlace (firstEntry m)) (entryPlace (lastEntry m)) (start d m)
   unfolding start fibonacci
@@ -156,9 +156,9 @@ module _ (d : ℕ → ℕ) (m : ℕ) (m≥1 : 1 ≤ m) (m≤24 : m ≤ 24) where
       record { low = le-refl _; order = omega arith; high = le-refl _; best-low = y .0; best-high = y .1 }
 
   -- the state at any step refines the start
-  from-start : (j : ℕ) → j ≤ 14 → Refines d (start d m) (after d m j)
+  from-start : (j : ℕ) → j ≤ 14 → Advances d (start d m) (after d m j)
   unfolding after
-  from-start j h = rw zero-add at (after-refines 0 j (omega arith))
+  from-start j h = rw zero-add at (after-advances 0 j (omega arith))
 
   -- all places lie in the first bracket
   pub after-inside : (j : ℕ) → j ≤ 14 → Inside (entryPlace (firstEntry m)) (entryPlace (lastEntry m)) (after d m j)
@@ -187,10 +187,10 @@ module _ (d : ℕ → ℕ) (m : ℕ) (m≥1 : 1 ≤ m) (m≤24 : m ≤ 24) where
       le-trans (from-start j h .nearer) (le-trans (nearer-le d b (nearer d a (entryPlace m))) (nearer-le d a (entryPlace m)))
 
   -- demand 3: more steps allowed refine the state
-  pub steps-refine : {n₁ n₂ : ℕ} → n₁ ≤ n₂ → Refines d (after d m (stepsOf n₁)) (after d m (stepsOf n₂))
-  steps-refine {n₁} {n₂} h =
+  pub steps-advance : {n₁ n₂ : ℕ} → n₁ ≤ n₂ → Advances d (after d m (stepsOf n₁)) (after d m (stepsOf n₂))
+  steps-advance {n₁} {n₂} h =
       let e : stepsOf n₁ + (stepsOf n₂ - stepsOf n₁) ≡ stepsOf n₂ = omega arith in
-      rw e at (after-refines (stepsOf n₁) (stepsOf n₂ - stepsOf n₁) (omega arith))
+      rw e at (after-advances (stepsOf n₁) (stepsOf n₂ - stepsOf n₁) (omega arith))
 
   -- demand 3: the width for the count reported
   pub steps-width : (n : ℕ) → Wide (pieces m) (stepsOf n) (after d m (stepsOf n))

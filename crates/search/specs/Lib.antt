@@ -1,3 +1,3 @@
 pub mod Golden
 pub mod GoldenLaws
-pub mod Progress
+pub mod Code

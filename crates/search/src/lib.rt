@@ -5,7 +5,7 @@ ghost use Prim.Native.Nat.{_≤_};
 ghost use lib.Dec.{ltb};
 ghost use Rattle.locus.specs.Locus.{distanceAt};
 ghost use Rattle.search.specs.Golden.{stepsOf};
-ghost use Rattle.search.specs.Progress.{found, Begins, Tracks, Lies, moved};
+ghost use Rattle.search.specs.Code.Progress.{found, Begins, Tracks, Lies, moved};
 
 // What a search has found: its bracket, its best point (document 01's "nearest point seen") and that point's squared distance.
 pub struct Search {

@@ -1,14 +1,12 @@
 pub mod Line
 pub mod LineLaws
-pub mod Scan
 pub mod ScanLaws
 pub mod Decimal
 pub mod DecimalLaws
 pub mod Print
 pub mod PrintLaws
-pub mod Wrote
 pub mod WroteLaws
 pub mod Stream
-pub mod Block
 pub mod BlockLaws
 pub mod StreamLaws
+pub mod Code

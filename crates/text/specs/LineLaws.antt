@@ -7,7 +7,7 @@ use native.Mathlib.Omega.{arith}
 use lib.ListN.{length}
 use lib.Dec.{leb, eqb}
 use borrow.Author.Tests.{le-leb, leb-true, leb-false}
-use Rattle.arith.specs.Tests.{and-both}
+use Rattle.arith.specs.TestLaws.{and-both}
 use Rattle.text.specs.declared.grammar.Line.the-variants.{Unreadable}
 use Rattle.text.specs.Line.{space, front, words, every, isDigit, isNumber, value, defaultSteps, numbersOf, wordsLine, lineOf}
 

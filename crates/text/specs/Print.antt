@@ -4,7 +4,7 @@ use mathlib.Core.List.{List, [], _∷_, _++_}
 use mathlib.Core.Bool.{cond}
 use lib.Dec.{eqb}
 use Rattle.refusal.specs.Number.{numberOf}
-use Rattle.refusal.specs.declared.Refusal.the-variants.{Unreadable as NotALine}
+use Rattle.refusal.specs.declared.Refusal.the-variants.{BadLine}
 use Rattle.reading.specs.Convert.{convertWhole}
 use Rattle.cct.specs.declared.Answer.{Answer}
 use Rattle.cct.specs.Answers.{answer}
@@ -35,7 +35,7 @@ answerText a = cond (eqb (a .refusal) 0) (acceptedText a) (decimal (a .refusal))
 
 -- the answer to what a line says: refusal 8 comes before all others
 unfoldable pub replyTo : Line → List ℕ
-replyTo Unreadable = decimal (numberOf NotALine)
+replyTo Unreadable = decimal (numberOf BadLine)
 replyTo (Numbers u v n) = answerText (answer programEdges (convertWhole u v) n)
 
 -- with its newline

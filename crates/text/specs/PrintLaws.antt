@@ -6,9 +6,9 @@ use native.Mathlib.Omega.{arith}
 use lib.ListN.{length, length-append}
 use lib.IntN.{ℤ}
 use lib.Dec.{eqb}
-use Rattle.arith.specs.Tests.{cond-both}
+use Rattle.arith.specs.TestLaws.{cond-both}
 use Rattle.refusal.specs.Number.{numberOf}
-use Rattle.refusal.specs.declared.Refusal.the-variants.{Unreadable as NotALine}
+use Rattle.refusal.specs.declared.Refusal.the-variants.{BadLine}
 use Rattle.reading.specs.Convert.{convertWhole}
 use Rattle.cct.specs.declared.Answer.{Answer}
 use Rattle.cct.specs.Answers.{answer}
@@ -58,5 +58,5 @@ answer-short a =
 
 pub reply-short : (l : Line) → length (replyTo l) ≤ 68
 unfolding replyTo
-reply-short Unreadable = omega (arith, digits-short 10 (numberOf NotALine))
+reply-short Unreadable = omega (arith, digits-short 10 (numberOf BadLine))
 reply-short (Numbers u v n) = answer-short (answer programEdges (convertWhole u v) n)

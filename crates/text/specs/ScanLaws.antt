@@ -10,13 +10,13 @@ use lib.ListN.{length, length-append, take, getD}
 use lib.Seq.{take-suc}
 use lib.Dec.{leb, ltb, eqb}
 use borrow.Author.Tests.{le-ltb, le-leb, lt-leb, ne-eqb, ltb-true, ltb-false, leb-true, eqb-true, eqb-false}
-use Rattle.arith.specs.Tests.{and-both, both-and, first-fails, second-fails}
+use Rattle.arith.specs.TestLaws.{and-both, both-and, first-fails, second-fails}
 use Rattle.text.specs.declared.grammar.Line.{Line}
 use Rattle.text.specs.declared.grammar.Line.the-variants.{Unreadable}
 use Rattle.text.specs.declared.grammar.Scan.{Scan}
 use Rattle.text.specs.Line.{front, words, every, isDigit, isNumber, valueFrom, value, numbersOf, wordsLine, lineOf}
 use Rattle.text.specs.LineLaws.{glue, glue-piece, glue-snoc, some-words, length-implied}
-use Rattle.text.specs.Scan.{emptyScan, badScan, scanSpace, scanByte, scanLine, scanned}
+use Rattle.text.specs.Code.Scan.{emptyScan, badScan, scanSpace, scanByte, scanLine, scanned}
 
 -- one byte more
 pub scan-snoc : (s : Scan) (l : List ℕ) (x : ℕ) → scanned s (l ++ (x ∷ [])) ≡ scanByte (scanned s l) x

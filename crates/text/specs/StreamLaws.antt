@@ -6,16 +6,16 @@ use mathlib.Core.Bool.{Bool, true, false, not, cond}
 use native.Mathlib.Omega.{arith}
 use lib.Dec.{ltb, eqb}
 use borrow.Author.Tests.{ne-eqb, not-true}
-use Rattle.arith.specs.Tests.{and-both, cond-both, first-fails, second-fails}
+use Rattle.arith.specs.TestLaws.{and-both, cond-both, first-fails, second-fails}
 use Rattle.text.specs.declared.grammar.Line.{Line}
 use Rattle.text.specs.declared.grammar.Scan.{Scan}
 use Rattle.text.specs.Line.{newline, front, every}
 use Rattle.text.specs.LineLaws.{glue, glue-piece, glue-snoc}
-use Rattle.text.specs.Scan.{emptyScan, scanSpace, scanDigit, scanByte, isEmpty, scanLine, scanned}
+use Rattle.text.specs.Code.Scan.{emptyScan, scanSpace, scanDigit, scanByte, isEmpty, scanLine, scanned}
 use Rattle.text.specs.ScanLaws.{scan-snoc, scan-line}
 use Rattle.text.specs.Print.{replyLine, answerLine}
 use Rattle.text.specs.Stream.{lines, answers, outputOf}
-use Rattle.text.specs.Block.{emits, leaves, closes, runBlocks}
+use Rattle.text.specs.Code.Block.{emits, leaves, closes, runBlocks}
 use Rattle.text.specs.BlockLaws.{leaves-append, emits-append}
 
 -- a run in blocks gives what a run in one block gives

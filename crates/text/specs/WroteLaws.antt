@@ -6,7 +6,7 @@ use native.Mathlib.Omega.{arith}
 use native.Mathlib.Numerals.{add-one}
 use lib.ListN.{length, length-append, length-set, take, set}
 use lib.Seq.{take-suc-set}
-use Rattle.text.specs.Wrote.{Wrote}
+use Rattle.text.specs.Code.Wrote.{Wrote}
 
 -- two appends in a row
 pub then : {a b c : ℕ} {o p q : List ℕ} {xs ys : List ℕ} → Wrote a o p b xs → Wrote b p q c ys → Wrote a o q c (xs ++ ys)

@@ -2,7 +2,7 @@
 ghost use mathlib.Core.Path.{_≡_};
 ghost use Prim.Native.Nat.{_≤_};
 ghost use Rattle.text.specs.Line.{lineOf};
-ghost use Rattle.text.specs.Scan.{emptyScan, badScan, scanSpace, scanDigit, scanByte, isEmpty, scanLine};
+ghost use Rattle.text.specs.Code.Scan.{emptyScan, badScan, scanSpace, scanDigit, scanByte, isEmpty, scanLine};
 
 // What a line says.
 pub enum Line {

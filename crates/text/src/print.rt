@@ -8,7 +8,7 @@ ghost use lib.ListN.{length};
 ghost use Prim.Native.Nat.{_+_, _≤_, _<_};
 ghost use Rattle.reading.specs.Convert.{convertWhole};
 ghost use Rattle.cct.specs.Answers.{answer};
-ghost use Rattle.text.specs.Wrote.{Wrote};
+ghost use Rattle.text.specs.Code.Wrote.{Wrote};
 ghost use Rattle.text.specs.Decimal.{digitsOf, decimal, signed};
 ghost use Rattle.cct.specs.ProgramEdges.{programEdges};
 ghost use Rattle.text.specs.Print.{classText, answerText, replyTo, replyLine};
@@ -130,7 +130,7 @@ fn put_reply(line: Line, out: &mut [u8], at: usize) -> usize
 {
     match line {
         Line::Unreadable => {
-            let number = Refusal::Unreadable.number();
+            let number = Refusal::BadLine.number();
             put_number(number as u32, out, at)
         }
         Line::Numbers(u, v, max_steps) => {

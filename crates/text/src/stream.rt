@@ -3,8 +3,8 @@ use crate::grammar::Scan;
 use crate::print;
 ghost use lib.ListN.{length};
 ghost use Prim.Native.Nat.{_+_, _≤_};
-ghost use Rattle.text.specs.Wrote.{Wrote};
-ghost use Rattle.text.specs.Block.{closes, lineRoom, Taken, Blocked};
+ghost use Rattle.text.specs.Code.Wrote.{Wrote};
+ghost use Rattle.text.specs.Code.Block.{closes, lineRoom, Taken, Blocked};
 
 // Room for any answer with its newline.
 const LINE_ROOM: usize = 80;

@@ -3,7 +3,7 @@ use mathlib.Core.Path.{_≡_}
 use Prim.Native.Nat.{_-_, _≤_}
 use native.Mathlib.Omega.{arith}
 use Rattle.locus.specs.Locus.{distanceAt}
-use Rattle.search.specs.Progress.{Tracks, Lies}
+use Rattle.search.specs.Code.Progress.{Tracks, Lies}
 use Rattle.search.proofs.Moves.{tracks-next, lies, answers}
 use Rattle.search.proofs.run.Statement.{statement}
 use Rattle.search.proofs.run.Tie as tie

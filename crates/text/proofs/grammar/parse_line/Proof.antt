@@ -7,7 +7,7 @@ use borrow.Author.Needs.{needs}
 use lib.ListN.{length, getD, take}
 use lib.Seq.{take-all}
 use Rattle.text.specs.declared.grammar.Scan.{Scan}
-use Rattle.text.specs.Scan.{emptyScan, scanByte, scanLine, scanned}
+use Rattle.text.specs.Code.Scan.{emptyScan, scanByte, scanLine, scanned}
 use Rattle.text.specs.ScanLaws.{scan-take, scan-line}
 use Rattle.text.proofs.grammar.parse_line.Statement.{statement}
 use Rattle.text.proofs.grammar.parse_line.Tie as tie

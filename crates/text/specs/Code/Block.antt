@@ -9,9 +9,9 @@ use Rattle.text.specs.declared.grammar.Scan.{Scan}
 use Rattle.text.specs.declared.stream.Next.{Next}
 use Rattle.text.specs.declared.stream.Done.{Done}
 use Rattle.text.specs.Line.{newline}
-use Rattle.text.specs.Scan.{emptyScan, scanByte, isEmpty, scanLine}
+use Rattle.text.specs.Code.Scan.{emptyScan, scanByte, isEmpty, scanLine}
 use Rattle.text.specs.Print.{replyLine}
-use Rattle.text.specs.Wrote.{Wrote}
+use Rattle.text.specs.Code.Wrote.{Wrote}
 
 -- what a byte adds to the output where the line so far is s, and the line so far after it
 abbrev pub emitted : Scan → ℕ → List ℕ

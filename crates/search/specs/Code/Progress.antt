@@ -4,7 +4,7 @@ use mathlib.Core.Bool.{Bool, cond}
 use Prim.Native.Nat.{ℕ, _+_, _-_, _*_, _≤_}
 use lib.Dec.{ltb}
 use Rattle.locus.specs.Locus.{entryDistance}
-use Rattle.locus.specs.Pieces.{SpanFollows, SpanAbout}
+use Rattle.locus.specs.Code.Pieces.{SpanFollows, SpanAbout}
 use Rattle.locus.specs.declared.Span.{Span}
 use Rattle.search.specs.Golden.{pieces, fibonacci, innerLow, innerHigh, State, after}
 use Rattle.search.specs.declared.Progress.{Progress}

@@ -1,0 +1,4 @@
+-- What the contracts of functions inside the crate say; no reader of the rules needs it.
+pub mod Scan
+pub mod Block
+pub mod Wrote
