@@ -2,6 +2,7 @@
 
 from fractions import Fraction
 from itertools import product
+from math import floor
 
 import document_cases
 import reference as ref
@@ -97,17 +98,16 @@ def outside_lines(dice):
     """The nearest point seen lies outside the bracket: it is answered all the same, and the class looks at all three."""
     for reading in best_outside(dice, 120):
         for allowance in (2, 4, 6, 9, 14):
-            state = ref.search_states(reading, allowance)[allowance]
-            yield through("whole", reading, allowance, edges_around(state, dice))
+            yield through("whole", reading, allowance, edges_around(ref.found_after(reading, allowance), dice))
 
 
 def tight_edge_lines(dice):
     """Edges at or one kelvin beside the temperatures of o, p and the nearest point seen."""
     for k in range(1400):
         reading, allowance = admitted(dice), dice.below(15)
-        state = ref.search_states(reading, allowance)[allowance]
+        found = ref.found_after(reading, allowance)
         for form in (edges_around, edges_about):
-            yield through(("whole", "uv", "uvp")[k % 3], reading, allowance, form(state, dice))
+            yield through(("whole", "uv", "uvp")[k % 3], reading, allowance, form(found, dice))
 
 
 def exact_edge_lines(dice):
@@ -116,7 +116,7 @@ def exact_edge_lines(dice):
     for i in whole_kelvins:
         for m in {max(i - 1, 1), i, min(i + 1, 24)}:
             for shift in (-1, 0, 1):
-                edge = ref.KELVIN_PLACES // ref.entry_place(i) + shift
+                edge = floor(ref.kelvin_at(ref.entry_place(i))) + shift
                 if 1600 < edge < 20_001:
                     yield line("whole", ref.entry_point(m), 0, (1600, edge, 20_001))
                     yield through("uv", ref.entry_point(m), 14, (1600, edge, 20_001))
@@ -180,12 +180,12 @@ def check_refinement(kind, args, edges):
         assert all(later == given[0] for later in given)
         return
     reading = ref.CONVERSIONS[kind](*args)
-    g = ref.starting_bracket(ref.nearest_entry(reading))[2]
+    g = ref.bracket(ref.nearest_entry(reading))[2]
     for n, first in enumerate(given):
         assert first.refusal == 0 and first.steps == min(n, 14)
-        assert first.high - first.low == g * ref.FIBONACCI[18 - first.steps]
+        assert first.p - first.o == g * ref.F(18 - first.steps)
         for later in given[n:]:
-            assert first.low <= later.low and later.high <= first.high
+            assert first.o <= later.o and later.p <= first.p
             assert ref.distance_at(reading, later.place) <= ref.distance_at(reading, first.place)
             assert first.cls in (ref.NO_CLASS, later.cls)
             if first.steps == later.steps:
@@ -196,7 +196,7 @@ def refinement_lines(dice):
     """The same reading at every allowance from 0 to 15, and at the largest."""
     for kind, reading in refinement_readings(dice):
         args = reading if kind == "whole" else AS_FLOATS[kind](*reading)
-        edges = edges_around(ref.search_states(reading, 14)[dice.below(15)], dice)
+        edges = edges_around(ref.found_after(reading, dice.below(15)), dice)
         check_refinement(kind, args, edges)
         for allowance in (*range(16), LARGEST_U32):
             yield line(kind, args, allowance, edges)

@@ -1,12 +1,13 @@
 """Vectors for the parts of the search: `point`, `entry`, `search`, `class` and `edges`."""
 
 from itertools import product
+from math import floor
 
 import reference as ref
 from dice import Dice
 from readings import admitted, at_the_limit, behind_an_end, best_outside, comparisons, entry_ties, looks, search_ties
 
-ON_EDGES = [place for place in range(ref.FIRST_PLACE, ref.LAST_PLACE + 1) if ref.KELVIN_PLACES % place == 0]
+ON_EDGES = [place for place in range(ref.FIRST_PLACE, ref.LAST_PLACE + 1) if ref.kelvin_at(place).denominator == 1]
 
 
 def point_lines(dice):
@@ -57,7 +58,7 @@ def edges_about(places, dice):
     """A good list whose edges are the temperatures of the places, exactly or just beside."""
     edges = set()
     for place in places:
-        kelvin = ref.KELVIN_PLACES // place
+        kelvin = floor(ref.kelvin_at(place))
         edges |= {kelvin + dice.pick((0, 1)), kelvin + dice.pick((-1, 0, 1, 2))}
     edges |= {dice.pick((1600, 1700)), dice.pick((19_999, 20_000, 20_001))}
     return sorted(edge for edge in edges if 1600 <= edge <= 20001)
@@ -65,14 +66,14 @@ def edges_about(places, dice):
 
 def edges_around(places, dice):
     """A good list with an edge at or just beside the coolest place and at or just beside the hottest, none between."""
-    lower = max(1600, ref.KELVIN_PLACES // max(places) + dice.pick((0, 0, 1)))
-    upper = min(20_001, max(lower + 1, ref.KELVIN_PLACES // min(places) + dice.pick((0, 1, 1))))
+    lower = max(1600, floor(ref.kelvin_at(max(places))) + dice.pick((0, 0, 1)))
+    upper = min(20_001, max(lower + 1, floor(ref.kelvin_at(min(places))) + dice.pick((0, 1, 1))))
     others = {dice.between(1600, 20_001) for _ in range(dice.pick((0, 2, 4, 8)))}
     return sorted({lower, upper} | {edge for edge in others if edge < lower or edge > upper})
 
 
 def class_lines(dice):
-    """Places exactly on an edge and one notch beside it, over edge lists of every length."""
+    """Places exactly on an edge and one place beside it, over edge lists of every length."""
     for _ in range(1500):
         low = dice.pick(ON_EDGES) + dice.pick((-1, 0, 0, 1))
         low = min(max(low, ref.FIRST_PLACE), ref.LAST_PLACE)
@@ -144,8 +145,8 @@ def expected(line):
         return expected_entry(tuple(numbers))
     if kind == "search":
         reading, steps = tuple(numbers[:2]), numbers[2]
-        state = ref.search_states(reading, steps)[steps]
-        return "%d %d %d %d" % (*state, ref.distance_at(reading, state.best))
+        found = ref.found_after(reading, steps)
+        return "%d %d %d %d" % (*found, ref.distance_at(reading, found.nearest))
     if kind == "class":
-        return "%d" % ref.class_of(numbers[3:], ref.State(*numbers[:3]))
+        return "%d" % ref.class_of(numbers[3:], ref.Found(*numbers[:3]))
     return "%d" % ref.edges_valid(numbers)

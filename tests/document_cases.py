@@ -67,19 +67,20 @@ def check_refusals():
 
 
 def check_allowances():
-    """Allowances 13, 14, 15 and the largest: the count is the smaller of the allowance and 14."""
+    """Allowances 13, 14, 15 and the largest: no search takes more than 14 steps."""
     given = [ref.answer("whole", (219300, 327100), GOOD_EDGES, n) for n in (13, 14, 15, LARGEST_U32)]
     assert [a.steps for a in given] == [13, 14, 14, 14]
-    assert [a.high - a.low for a in given] == [2 * 5, 2 * 3, 2 * 3, 2 * 3]
+    assert [a.p - a.o for a in given] == [2 * 5, 2 * 3, 2 * 3, 2 * 3]
     assert given[1] == given[2] == given[3]
 
 
 def check_stored_locus():
-    """Mired and notches agree, the ends are 20,000 K and 1600 K, and F(18) is an entry's share of notches."""
-    assert all(Fraction(ref.entry_place(i) * 25, 2584) == ref.MIREDS[i - 1] for i in ref.ENTRIES)
+    """What the document says of places, temperatures and F, against the mired values that the reference goes by."""
+    assert all(ref.STORED[i][0] == 25 * (i + 1) and ref.entry_place(i) == 2584 * (i + 1) for i in ref.ENTRIES)
     assert (ref.entry_place(1), ref.entry_place(24)) == (ref.FIRST_PLACE, ref.LAST_PLACE)
-    assert Fraction(ref.KELVIN_PLACES, ref.FIRST_PLACE) == 20000 and Fraction(ref.KELVIN_PLACES, ref.LAST_PLACE) == 1600
-    assert ref.FIBONACCI[1] == ref.FIBONACCI[2] == 1 and ref.FIBONACCI[18] == ref.PIECE
+    assert (ref.kelvin_at(ref.FIRST_PLACE), ref.kelvin_at(ref.LAST_PLACE)) == (20000, 1600)
+    assert all(ref.kelvin_at(place) == Fraction(103_360_000, place) for place in range(ref.FIRST_PLACE, ref.LAST_PLACE + 1, 101))
+    assert ref.F(1) == ref.F(2) == 1 and ref.F(18) == 2584
     assert all(ref.locus_point(ref.entry_place(i)) == ref.entry_point(i) for i in ref.ENTRIES)
 
 

@@ -43,13 +43,13 @@ def either_side_of_halves(unit, dice, count):
 
 
 def single_precision_product(bits, scale):
-    """The slip: the product with S is rounded to an f32 before the floor."""
+    """A wrong rule: the product with S is rounded to an f32 before the floor."""
     product = exact_value(nearest_f32(exact_value(bits) * scale))
     return floor(exact_value(nearest_f32(product + Fraction(1, 2))))
 
 
-def single_precision_slips(unit, dice, count):
-    """Floats at which that slip gives another whole number than the rule."""
+def spoilt_by_single_precision(unit, dice, count):
+    """Floats at which that wrong rule gives another whole number."""
     scale, bound = unit
     top = nearest_f32(bound)
     found = []
@@ -77,5 +77,5 @@ def upper_end(unit):
 def hard_floats(unit, dice):
     """In-range patterns, hardest first."""
     found = small_values() + upper_end(unit) + exact_halves(unit, dice, 200)
-    found += either_side_of_halves(unit, dice, 150) + single_precision_slips(unit, dice, 200)
+    found += either_side_of_halves(unit, dice, 150) + spoilt_by_single_precision(unit, dice, 200)
     return [bits for bits in found if 0 <= exact_value(bits) < unit[1]]

@@ -76,7 +76,7 @@ def behind_an_end(m, other, steps):
             offset = on_line(du, dv, sign * unit, along)
             reading = corner[0] + offset[0], corner[1] + offset[1]
             if ref.nearest_entry(reading) == m:
-                assert ref.dot(reading, corner, end) == sign * unit
+                assert ref.dot(offset, (du, dv)) == sign * unit
                 yield reading
 
 
@@ -103,20 +103,13 @@ def entry_ties(dice, count):
 
 def comparisons(reading):
     """The inner points (a, b) that each of the 14 steps compares."""
-    g = ref.starting_bracket(ref.nearest_entry(reading))[2]
-    return [ref.inner_points(state.low, g, j) for j, state in enumerate(ref.search_states(reading))][:ref.MOST_STEPS]
+    return [(stage.a, stage.b) for stage in ref.stages(reading)[:-1]]
 
 
 def looks(reading):
-    """Each point looked at, with the nearest point seen before it."""
-    states = ref.search_states(reading)
-    m = ref.entry_place(ref.nearest_entry(reading))
-    pairs = comparisons(reading)
-    a, b = pairs[0]
-    found = [(a, m), (b, ref.nearer(reading, a, m))]
-    for j in range(1, ref.MOST_STEPS):
-        found += [(point, states[j - 1].best) for point in pairs[j] if point not in pairs[j - 1]]
-    return found
+    """Each point looked at before the last step, with the nearest point seen before it."""
+    seen = ref.stages(reading)[-2].seen
+    return [(seen[k], ref.nearest_seen(reading, seen[:k])) for k in range(1, len(seen))]
 
 
 def has_tie(reading, pairs):
@@ -146,12 +139,16 @@ def square_to_an_entry(dice):
     return u + (along * du - out * dv) // length, v + (along * dv + out * du) // length
 
 
+def leaves_bracket(reading):
+    return any(not o <= nearest <= p for o, p, nearest in (ref.found_at(reading, stage) for stage in ref.stages(reading)))
+
+
 def best_outside(dice, count):
     """Readings whose nearest point seen leaves the bracket during the search."""
     found = []
     while len(found) < count:
         reading = square_to_an_entry(dice)
-        if is_admitted(reading) and any(not s.low <= s.best <= s.high for s in ref.search_states(reading)):
+        if is_admitted(reading) and leaves_bracket(reading):
             found.append(reading)
     return found
 

@@ -1,6 +1,7 @@
 """The rules of document 01 in exact whole numbers and fractions: the independent second program.
 
-It was written from document 01 alone and shares no code with the proved library. Section names below are document 01's.
+It follows the document's own words, letters and sections, and has neither code nor formulas in common with the crates:
+the locus goes by mired, the bracket by its three cases, the nearest point by all points seen, the class by kelvin.
 """
 
 import re
@@ -23,9 +24,9 @@ class Refused(Exception):
         self.number = number
 
 
-def nearest(numerator, denominator):
-    """A quotient rounded to the nearest whole number, halves up."""
-    return floor(Fraction(numerator, denominator) + Fraction(1, 2))
+def rounded(value):
+    """An exact value to its nearest whole number; one half goes up."""
+    return floor(value + Fraction(1, 2))
 
 
 # --- Readings ---------------------------------------------------------------------------------------------------------
@@ -58,13 +59,13 @@ def convert_uv(u, v):
 
 def convert_uvp(u_prime, v_prime):
     u, v = whole_numbers((u_prime, v_prime), COORDINATE)
-    return u, nearest(2 * v, 3)
+    return u, rounded(Fraction(2 * v, 3))
 
 
 def convert_xy(x_bits, y_bits):
     x, y = whole_numbers((x_bits, y_bits), COORDINATE)
     n = 3 * MICRO - 2 * x + 12 * y
-    return nearest(4 * x * MICRO, n), nearest(6 * y * MICRO, n)
+    return rounded(Fraction(4 * x * MICRO, n)), rounded(Fraction(6 * y * MICRO, n))
 
 
 def convert_xyz(x_bits, y_bits, z_bits):
@@ -72,7 +73,7 @@ def convert_xyz(x_bits, y_bits, z_bits):
     if y < DARK:
         raise Refused(TOO_DARK)
     n = x + 15 * y + 3 * z
-    return nearest(4 * x * MICRO, n), nearest(6 * y * MICRO, n)
+    return rounded(Fraction(4 * x * MICRO, n)), rounded(Fraction(6 * y * MICRO, n))
 
 
 def convert_whole(u, v):
@@ -86,35 +87,52 @@ CONVERSIONS = {"uv": convert_uv, "uvp": convert_uvp, "xy": convert_xy, "xyz": co
 
 # --- The stored locus -------------------------------------------------------------------------------------------------
 
-MIREDS = tuple(range(50, 650, 25))
-STORED = (
-    (18387, 27715), (18673, 28509), (19031, 29330), (19462, 30144), (19962, 30923), (20524, 31649),
-    (21142, 32313), (21807, 32910), (22511, 33440), (23247, 33904), (24010, 34308), (24792, 34655),
-    (25591, 34951), (26400, 35200), (27217, 35407), (28039, 35577), (28862, 35714), (29685, 35823),
-    (30504, 35907), (31319, 35968), (32128, 36012), (32930, 36038), (33723, 36051), (34507, 36053),
-)
+# i: (mired, u, v), the coordinates in units of 0.00001.
+STORED = {
+    1: (50, 18387, 27715), 2: (75, 18673, 28509), 3: (100, 19031, 29330), 4: (125, 19462, 30144),
+    5: (150, 19962, 30923), 6: (175, 20524, 31649), 7: (200, 21142, 32313), 8: (225, 21807, 32910),
+    9: (250, 22511, 33440), 10: (275, 23247, 33904), 11: (300, 24010, 34308), 12: (325, 24792, 34655),
+    13: (350, 25591, 34951), 14: (375, 26400, 35200), 15: (400, 27217, 35407), 16: (425, 28039, 35577),
+    17: (450, 28862, 35714), 18: (475, 29685, 35823), 19: (500, 30504, 35907), 20: (525, 31319, 35968),
+    21: (550, 32128, 36012), 22: (575, 32930, 36038), 23: (600, 33723, 36051), 24: (625, 34507, 36053),
+}
 ENTRIES = range(1, 25)
-PIECE = 2584  # notches from an entry to the next
 FIRST_PLACE, LAST_PLACE = 5168, 64600
-KELVIN_PLACES = 103_360_000  # kelvin times place
 
 
+def mired_at(place):
+    """A place counts steps of 25/2584 mired."""
+    return Fraction(25 * place, 2584)
+
+
+def kelvin_at(place):
+    """The temperature: a million over the mired value."""
+    return 1_000_000 / mired_at(place)
+
+
+@lru_cache(maxsize=None)
 def entry_place(i):
-    return PIECE * (i + 1)
+    """The place whose mired value is the entry's."""
+    place = STORED[i][0] / mired_at(1)
+    assert place.denominator == 1
+    return int(place)
 
 
 def entry_point(i):
-    u, v = STORED[i - 1]
+    _, u, v = STORED[i]
     return 10 * u, 10 * v
 
 
 @lru_cache(maxsize=None)
 def locus_point(place):
-    """u and v of the locus in micro: straight between entries, each rounded to the nearest micro, halves up."""
-    i = min(place // PIECE - 1, 23)
-    along = place - entry_place(i)
-    start, end = entry_point(i), entry_point(i + 1)
-    return tuple(nearest(a * (PIECE - along) + b * along, PIECE) for a, b in zip(start, end))
+    """u and v in micro: straight in mired between the two entries that enclose the place, each rounded once."""
+    mired = mired_at(place)
+    left = max(i for i in ENTRIES if STORED[i][0] <= mired)
+    right = min(i for i in ENTRIES if STORED[i][0] >= mired)
+    if left == right:
+        return entry_point(left)
+    share = (mired - STORED[left][0]) / (STORED[right][0] - STORED[left][0])
+    return tuple(rounded(x + share * (y - x)) for x, y in zip(entry_point(left), entry_point(right)))
 
 
 def squared_distance(p, q):
@@ -130,86 +148,108 @@ def distance_at(reading, place):
 MOST_STEPS = 14
 
 
-def fibonacci(n):
-    a, b = 0, 1
-    for _ in range(n):
-        a, b = b, a + b
-    return a
+@lru_cache(maxsize=None)
+def F(n):
+    """Fibonacci's sequence."""
+    return 1 if n in (1, 2) else F(n - 1) + F(n - 2)
 
 
-FIBONACCI = [fibonacci(n) for n in range(19)]
+class Stage(NamedTuple):
+    """The search after some number of steps."""
+
+    o: int
+    p: int
+    a: int
+    b: int
+    seen: tuple  # the points looked at, in order, entry m first
 
 
-class State(NamedTuple):
-    low: int  # o
-    high: int  # p
-    best: int  # the nearest point seen
+class Found(NamedTuple):
+    o: int
+    p: int
+    nearest: int  # the nearest point seen
 
 
 def nearest_entry(reading):
-    """Rule 1: of equals, the lowest."""
-    return min(ENTRIES, key=lambda i: (squared_distance(reading, entry_point(i)), i))
+    """Rule 1: `min` takes the first of equals."""
+    return min(ENTRIES, key=lambda i: squared_distance(reading, entry_point(i)))
 
 
-def starting_bracket(m):
-    """Rule 2: the bracket's ends and g."""
-    first, last = max(m - 1, 1), min(m + 1, 24)
-    return entry_place(first), entry_place(last), last - first
+def bracket(m):
+    """Rule 2: o, p and g, in its three cases."""
+    if m == 1:
+        return entry_place(1), entry_place(2), 1
+    if m == 24:
+        return entry_place(23), entry_place(24), 1
+    return entry_place(m - 1), entry_place(m + 1), 2
 
 
-def inner_points(low, g, j):
+def inner_points(o, g, j):
     """Rule 3: a and b after j steps."""
-    return low + g * FIBONACCI[16 - j], low + g * FIBONACCI[17 - j]
+    return o + g * F(16 - j), o + g * F(17 - j)
 
 
-def nearer(reading, point, best):
-    """Rule 6: the nearest point seen changes only for a strictly smaller distance."""
-    return point if distance_at(reading, point) < distance_at(reading, best) else best
+def goes_left(reading, a, b):
+    """Rule 4: whether a step moves p; otherwise it moves o."""
+    return distance_at(reading, a) < distance_at(reading, b)
 
 
-def search_states(reading, steps=MOST_STEPS):
-    """The states after 0, 1, .., `steps` steps."""
+def nearest_seen(reading, seen):
+    """Rule 6: of the points in the order of looking, the first of the least distance."""
+    return min(seen, key=lambda place: distance_at(reading, place))
+
+
+def stages(reading, steps=MOST_STEPS):
+    """Rules 2 to 6: the search after 0, 1, .., `steps` steps."""
     m = nearest_entry(reading)
-    low, high, g = starting_bracket(m)
-    a, b = inner_points(low, g, 0)
-    best = nearer(reading, b, nearer(reading, a, entry_place(m)))
-    states = [State(low, high, best)]
+    o, p, g = bracket(m)
+    a, b = inner_points(o, g, 0)
+    reached = [Stage(o, p, a, b, (entry_place(m), a, b))]
     for j in range(1, steps + 1):
-        if distance_at(reading, a) < distance_at(reading, b):
-            high, carried = b, a
-        else:
-            low, carried = a, b
-        a, b = inner_points(low, g, j)
-        assert carried in (a, b) and high - low == g * FIBONACCI[18 - j]
-        best = nearer(reading, b if carried == a else a, best)
-        states.append(State(low, high, best))
-    return states
+        *_, seen = reached[-1]
+        o, p = (o, b) if goes_left(reading, a, b) else (a, p)
+        before, (a, b) = {a, b}, inner_points(o, g, j)
+        (new,) = {a, b} - before
+        assert p - o == g * F(18 - j)
+        reached.append(Stage(o, p, a, b, (*seen, new)))
+    return reached
+
+
+def found_at(reading, stage):
+    return Found(stage.o, stage.p, nearest_seen(reading, stage.seen))
+
+
+def found_after(reading, steps):
+    """What the search has found after so many steps."""
+    return found_at(reading, stages(reading, steps)[-1])
 
 
 def signed_duv(reading, place):
-    """The whole root of the distance, negative where the reading's v is below the point's."""
-    root = isqrt(distance_at(reading, place))
-    return root if reading[1] >= locus_point(place)[1] else -root
+    """The largest whole root of the distance, below zero where the reading's v is below the point's."""
+    d = isqrt(distance_at(reading, place))
+    return d if reading[1] >= locus_point(place)[1] else -d
 
 
-# --- Shelf classes ----------------------------------------------------------------------------------------------------
+# --- Classes ---------------------------------------------------------------------------------------------------------
 
 NO_CLASS = 255
 
 
 def edges_valid(edges):
     """2 to 32 edges, strictly rising, each from 1600 to 20001."""
-    rising = all(low < high for low, high in zip(edges, edges[1:]))
-    return 2 <= len(edges) <= 32 and rising and all(1600 <= edge <= 20001 for edge in edges)
+    strictly_rising = list(edges) == sorted(set(edges))
+    return 2 <= len(edges) <= 32 and strictly_rising and 1600 <= min(edges) and max(edges) <= 20001
 
 
-def class_of(edges, state):
-    """The class that holds o, p and the nearest point seen, or 255."""
-    kelvins = [Fraction(KELVIN_PLACES, place) for place in state]
-    for j, (low, high) in enumerate(zip(edges, edges[1:])):
-        if all(low <= kelvin < high for kelvin in kelvins):
-            return j
-    return NO_CLASS
+def class_at(edges, kelvin):
+    """The class that holds a temperature, from its edge up to but not at the next; 255 for none."""
+    return next((j for j in range(len(edges) - 1) if edges[j] <= kelvin < edges[j + 1]), NO_CLASS)
+
+
+def class_of(edges, found):
+    """The one class of all three places; 255 for none."""
+    of_each = {class_at(edges, kelvin_at(place)) for place in found}
+    return of_each.pop() if len(of_each) == 1 else NO_CLASS
 
 
 # --- Numbers given instead of an answer -------------------------------------------------------------------------------
@@ -217,19 +257,22 @@ def class_of(edges, state):
 FARTHEST = 900_000_000
 
 
-def dot(reading, corner, other):
-    """(reading - corner) . (other - corner)."""
-    return sum((r - c) * (o - c) for r, c, o in zip(reading, corner, other))
+def minus(p, q):
+    return p[0] - q[0], p[1] - q[1]
+
+
+def dot(p, q):
+    return p[0] * q[0] + p[1] * q[1]
 
 
 def admit(reading):
     """Refusals 5, 6 and 7; otherwise the nearest entry."""
-    m = nearest_entry(reading)
-    if squared_distance(reading, entry_point(m)) > FARTHEST:
+    m, entry = nearest_entry(reading), entry_point
+    if squared_distance(reading, entry(m)) > FARTHEST:
         raise Refused(TOO_FAR)
-    if m == 1 and dot(reading, entry_point(1), entry_point(2)) < 0:
+    if m == 1 and dot(minus(reading, entry(1)), minus(entry(2), entry(1))) < 0:
         raise Refused(TOO_HOT)
-    if m == 24 and dot(reading, entry_point(24), entry_point(23)) < 0:
+    if m == 24 and dot(minus(reading, entry(24)), minus(entry(23), entry(24))) < 0:
         raise Refused(TOO_COOL)
     return m
 
@@ -237,8 +280,8 @@ def admit(reading):
 class Answer(NamedTuple):
     refusal: int
     place: int = 0
-    low: int = 0
-    high: int = 0
+    o: int = 0
+    p: int = 0
     duv: int = 0
     steps: int = 0
     cls: int = 0
@@ -246,9 +289,8 @@ class Answer(NamedTuple):
 
 def accepted_answer(reading, edges, allowance):
     steps = min(allowance, MOST_STEPS)
-    state = search_states(reading, steps)[steps]
-    duv = signed_duv(reading, state.best)
-    return Answer(0, state.best, state.low, state.high, duv, steps, class_of(edges, state))
+    found = found_after(reading, steps)
+    return Answer(0, found.nearest, found.o, found.p, signed_duv(reading, found.nearest), steps, class_of(edges, found))
 
 
 def answer(kind, args, edges, allowance):
@@ -267,7 +309,7 @@ def float_bits(given):
     """The float answer's two floats by their bits: kelvin and Duv; both all zero where the answer is refused."""
     if given.refusal:
         return 0, 0
-    return quotient_bits(KELVIN_PLACES, given.place), quotient_bits(given.duv, MICRO)
+    return quotient_bits(103_360_000, given.place), quotient_bits(given.duv, MICRO)
 
 
 # --- The text program -------------------------------------------------------------------------------------------------
@@ -288,11 +330,11 @@ def answer_line(line):
     if given.refusal:
         return b"%d" % given.refusal
     shown = b"-" if given.cls == NO_CLASS else b"%d" % given.cls
-    return b"0 %d %d %d %d %d %s" % (given.place, given.low, given.high, given.duv, given.steps, shown)
+    return b"0 %d %d %d %d %d %s" % (given.place, given.o, given.p, given.duv, given.steps, shown)
 
 
 def answer_text(text):
-    """The program's whole output; a newline at the very end starts no further line."""
+    """The program's whole output; the newline that ends the input opens no new line."""
     lines = text.split(b"\n")
     if lines[-1] == b"":
         lines.pop()

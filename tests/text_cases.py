@@ -98,7 +98,7 @@ def hard_readings(dice):
 
 
 def plain_readings(dice, count=1200):
-    """What the desk types."""
+    """Lines of everyday use: admitted readings with an allowance, and any reading about the locus with none."""
     for _ in range(count):
         yield as_line(*admitted(dice), dice.below(16))
         yield as_line(*near_locus(dice, 30_000))

@@ -1,0 +1,211 @@
+"""Tests the vectors: each wrong rule below is put into the reference in turn, and some committed vector must then change.
+
+    python3 tests/check_wrong_rules.py      the rules that are caught, how many, and the names of those that are not
+
+The first six are the mistakes that document 01 warns of; the others are near misses that its rules leave room for."""
+
+import sys
+from collections import Counter
+from contextlib import contextmanager
+from fractions import Fraction
+from math import ceil, isqrt
+from pathlib import Path
+
+sys.dont_write_bytecode = True
+sys.path.insert(0, str(Path(__file__).resolve().parent))
+
+import answer_cases
+import convert_cases
+import core_cases
+import reference as ref
+from floats import exact_value, is_finite
+from hard_floats import single_precision_product
+
+VECTORS = Path(__file__).resolve().parent.parent / "crates" / "vectors"
+PARTS = {"answer": answer_cases, **{kind: core_cases for kind in ("point", "entry", "search", "class", "edges")}}
+
+
+def too_far_by_the_point_found(reading, admit=ref.admit):
+    m = ref.nearest_entry(reading)
+    found = ref.distance_at(reading, ref.found_after(reading, 14).nearest)
+    if found <= ref.FARTHEST < ref.squared_distance(reading, ref.entry_point(m)):
+        return m
+    return admit(reading)
+
+
+def class_of_the_nearest_point_alone(edges, found, classed=ref.class_of):
+    return classed(edges, ref.Found(found.nearest, found.nearest, found.nearest))
+
+
+def left_on_equal_distances(reading, a, b):
+    return ref.distance_at(reading, a) <= ref.distance_at(reading, b)
+
+
+def last_of_equally_near_points(reading, seen):
+    return min(reversed(seen), key=lambda place: ref.distance_at(reading, place))
+
+
+def named_class(edges, found, holds):
+    """The first class for which `holds` is true of its two edges and each of the three temperatures."""
+    kelvins = [ref.kelvin_at(place) for place in found]
+    pairs = enumerate(zip(edges, edges[1:]))
+    return next((j for j, (low, high) in pairs if all(holds(low, kelvin, high) for kelvin in kelvins)), ref.NO_CLASS)
+
+
+def lower_edge_left_out(edges, found):
+    return named_class(edges, found, lambda low, kelvin, high: low < kelvin < high)
+
+
+def upper_edge_belongs(edges, found):
+    return named_class(edges, found, lambda low, kelvin, high: low <= kelvin <= high)
+
+
+def class_without_the_nearest_point(edges, found, classed=ref.class_of):
+    return classed(edges, found._replace(nearest=found.o))
+
+
+def kelvins_rounded_to_nearest(place, kelvin_at=ref.kelvin_at):
+    return Fraction(ref.rounded(kelvin_at(place)))
+
+
+def one_float_after_the_other(patterns, unit):
+    for bits in patterns:
+        if not is_finite(bits):
+            raise ref.Refused(ref.NOT_FINITE)
+        if not 0 <= exact_value(bits) < unit[1]:
+            raise ref.Refused(ref.OUT_OF_RANGE)
+    return [ref.whole_number(bits, unit[0]) for bits in patterns]
+
+
+def range_of_the_whole_number(patterns, unit):
+    if not all(is_finite(bits) for bits in patterns):
+        raise ref.Refused(ref.NOT_FINITE)
+    numbers = [ref.whole_number(bits, unit[0]) for bits in patterns]
+    if not all(0 <= number < unit[0] * unit[1] for number in numbers):
+        raise ref.Refused(ref.OUT_OF_RANGE)
+    return numbers
+
+
+def halves_down(value):
+    return ceil(value - Fraction(1, 2))
+
+
+def highest_of_equal_entries(reading):
+    return min(reversed(ref.ENTRIES), key=lambda i: ref.squared_distance(reading, ref.entry_point(i)))
+
+
+def end_brackets_over_two_pieces(m, bracket=ref.bracket):
+    return bracket(min(max(m, 2), 23))
+
+
+def root_rounded_to_nearest(reading, place):
+    root = isqrt(4 * ref.distance_at(reading, place)) + 1 >> 1
+    return root if reading[1] >= ref.locus_point(place)[1] else -root
+
+
+def equal_v_is_negative(reading, place):
+    root = isqrt(ref.distance_at(reading, place))
+    return root if reading[1] > ref.locus_point(place)[1] else -root
+
+
+def dot_of_zero_refused(p, q, dot=ref.dot):
+    return dot(p, q) or -1
+
+
+def never_behind(p, q):
+    return 0
+
+
+def last_point_not_looked_at(reading, steps):
+    last = ref.stages(reading, steps)[-1]
+    return ref.found_at(reading, last._replace(seen=last.seen[:-1]))
+
+
+def edges_after_the_reading(kind, args, edges, allowance, answer=ref.answer):
+    given = answer(kind, args, ref.TEXT_EDGES, allowance)
+    return given if given.refusal else answer(kind, args, edges, allowance)
+
+
+WRONG_RULES = (
+    ("admit", too_far_by_the_point_found),
+    ("class_of", class_of_the_nearest_point_alone),
+    ("goes_left", left_on_equal_distances),
+    ("nearest_seen", last_of_equally_near_points),
+    ("whole_number", single_precision_product),
+    ("class_of", lower_edge_left_out),
+    ("class_of", upper_edge_belongs),
+    ("class_of", class_without_the_nearest_point),
+    ("kelvin_at", kelvins_rounded_to_nearest),
+    ("whole_numbers", one_float_after_the_other),
+    ("whole_numbers", range_of_the_whole_number),
+    ("rounded", halves_down),
+    ("nearest_entry", highest_of_equal_entries),
+    ("bracket", end_brackets_over_two_pieces),
+    ("signed_duv", root_rounded_to_nearest),
+    ("signed_duv", equal_v_is_negative),
+    ("dot", dot_of_zero_refused),
+    ("dot", never_behind),
+    ("found_after", last_point_not_looked_at),
+    ("answer", edges_after_the_reading),
+    ("MOST_STEPS", 13),
+    ("FARTHEST", ref.FARTHEST - 1),
+    ("FARTHEST", ref.FARTHEST + 1),
+    ("DARK", ref.DARK + 1),
+    ("DARK", ref.DARK - 1),
+    ("WHOLE_LIMIT", ref.WHOLE_LIMIT - 1),
+    ("WHOLE_LIMIT", ref.WHOLE_LIMIT + 1),
+)
+
+
+@contextmanager
+def put_in(name, wrong):
+    """The reference with one wrong rule."""
+    right = getattr(ref, name)
+    setattr(ref, name, wrong)
+    ref.locus_point.cache_clear()
+    try:
+        yield
+    finally:
+        setattr(ref, name, right)
+        ref.locus_point.cache_clear()
+
+
+def first_caught(vectors):
+    """The first vector whose answer changes; a rule with which the reference cannot go on is caught too."""
+    for line, answer in vectors:
+        try:
+            if PARTS.get(line.split()[0], convert_cases).expected(line) != answer:
+                return line
+        except (AssertionError, ValueError, IndexError):
+            return line
+    return None
+
+
+def committed_vectors():
+    """(line, answer) of each committed vector, the kinds in turn, so that every kind is met early."""
+    lines, answers = ((VECTORS / name).read_text().splitlines() for name in ("stdin", "stdout"))
+    count = Counter()
+    turns = []
+    for line in lines:
+        kind = line.split()[0]
+        count[kind] += 1
+        turns.append(count[kind])
+    return [pair for _, pair in sorted(zip(turns, zip(lines, answers)), key=lambda ranked: ranked[0])]
+
+
+def main():
+    vectors = committed_vectors()
+    missed = []
+    for name, wrong in WRONG_RULES:
+        with put_in(name, wrong):
+            caught = first_caught(vectors)
+        title = wrong.__name__.replace("_", " ") if callable(wrong) else "%s = %s" % (name, wrong)
+        print("%-36s %s" % (title, "caught by: " + caught[:70] if caught else "NOT CAUGHT"))
+        missed += [] if caught else [title]
+    if missed:
+        sys.exit("check_wrong_rules: not caught: " + ", ".join(missed))
+    print("check_wrong_rules: all %d wrong rules are caught" % len(WRONG_RULES))
+
+
+if __name__ == "__main__":
+    main()
