@@ -1,17 +1,27 @@
-"""Checks docs/TRACE.md: every path and name in backticks in its tables must exist.
+"""Checks docs/TRACE.md: what stands in backticks in its tables exists, every row is full, and no line is too long.
 
-    `some/path`        the path exists (a `*` stands for anything)
-    `some/path#name`   the path exists and the name occurs in that file
-    `name`             the name occurs in a source, specification or proof of some crate
-"""
+    `cct/Answers#answer`   the name in Answers.antt of crates/cct: in specs, else in specs/Code, else in proofs
+    `cct/Answers`          that file
+    `cct::answer_uv`       the function, `cct::Type::name` a method, `cct::Type` a type or constant of crates/cct/src
+    `cct@answer_uv`        the function's proof: Proof.antt in the folder of its name in crates/cct/proofs
+    `cct!ends_swapped`     the must-fail edit crates/cct/must-fail/ends_swapped.edit
+    `tests/fuzz`           a path
+
+Several names after one mark are separated by commas: `cct::answer_uv, answer_reading`."""
 
 import re
 import sys
 from pathlib import Path
 
+sys.dont_write_bytecode = True
+
+from rattle_source import functions_of
+
 ROOT = Path(__file__).resolve().parent.parent
+CRATES = ROOT / "crates"
 TRACE = ROOT / "docs" / "TRACE.md"
-SOURCES = (".rt", ".antt")
+LONGEST_LINE = 200
+TOKEN = re.compile(r"(?P<crate>\w+)(?:/(?P<file>\w+)(?:#(?P<names>.+))?|(?P<mark>::|@|!)(?P<items>.+))")
 
 
 def occurs(name, text):
@@ -19,49 +29,102 @@ def occurs(name, text):
     return re.search(r"(?<![\w'-])" + re.escape(name) + r"(?![\w'-])", text) is not None
 
 
-def crate_text():
-    """Every source, specification and proof of the crates, in one text."""
-    files = sorted(path for path in (ROOT / "crates").rglob("*") if path.suffix in SOURCES)
-    return "\n".join(path.read_text(encoding="utf-8") for path in files)
+def file_fault(crate, file, names):
+    """What is missing of names in a file of specs/, else of specs/Code/, else of proofs/."""
+    paths = (CRATES / crate / folder / (file + ".antt") for folder in ("specs", "specs/Code", "proofs"))
+    found = next((path for path in paths if path.is_file()), None)
+    if found is None:
+        return "no file of that name in specs/, specs/Code/ or proofs/"
+    text = found.read_text(encoding="utf-8")
+    missing = [name for name in names if not occurs(name, text)]
+    return "%s does not have %s" % (found.relative_to(ROOT), ", ".join(missing)) if missing else None
 
 
-def fault(token, everything):
-    """None where what the token names exists; otherwise what is missing."""
-    path, _, name = token.partition("#")
-    if not name and "/" not in path and not (ROOT / path).exists():
-        return None if occurs(token, everything) else "no crate has this name"
-    found = sorted(ROOT.glob(path))
-    if not found:
-        return "no such path"
-    if name and not any(occurs(name, file.read_text(encoding="utf-8")) for file in found if file.is_file()):
-        return "the file has no such name"
-    return None
+def source_fault(crate, name):
+    """What is missing of a function, a type or a constant of src/."""
+    if name in {function.name for function in functions_of(crate)}:
+        return None
+    text = "\n".join(path.read_text(encoding="utf-8") for path in (CRATES / crate / "src").rglob("*.rt"))
+    if re.search(r"\b(?:struct|enum|const) %s\b" % re.escape(name), text):
+        return None
+    return "crates/%s/src has no %s" % (crate, name)
+
+
+def item_fault(crate, mark, name):
+    """What is missing of one name after `::`, `@` or `!`."""
+    if mark == "::":
+        return source_fault(crate, name)
+    if mark == "!":
+        return None if (CRATES / crate / "must-fail" / (name + ".edit")).is_file() else "no such must-fail edit"
+    folder = name.split("::")[-1]
+    proofs = [path for path in (CRATES / crate / "proofs").rglob("Proof.antt") if path.parent.name.lstrip("+") == folder]
+    return source_fault(crate, name) or (None if len(proofs) == 1 else "%d proofs of that name" % len(proofs))
+
+
+def parts(token):
+    """(crate, file, mark, names) of a token that names something of a crate; None for any other."""
+    match = TOKEN.fullmatch(token)
+    if not match or not (CRATES / match["crate"]).is_dir():
+        return None
+    names = [name.strip() for name in (match["names"] or match["items"] or "").split(",") if name.strip()]
+    return match["crate"], match["file"], match["mark"], names
+
+
+def faults_of(token):
+    """What is missing of what a token names."""
+    split = parts(token)
+    if split is None:
+        return [] if (ROOT / token).exists() else ["no such path"]
+    crate, file, mark, names = split
+    found = [file_fault(crate, file, names)] if file else [item_fault(crate, mark, name) for name in names]
+    return [fault for fault in found if fault]
+
+
+def tokens(text):
+    return re.findall(r"`([^`]+)`", text)
+
+
+def named_functions(text):
+    """Every `crate::name` that a text names."""
+    split = filter(None, map(parts, tokens(text)))
+    return {"%s::%s" % (crate, name) for crate, _, mark, names in split if mark == "::" for name in names}
 
 
 def rows(text):
-    """(line number, cells) of each row of a table, the rule under the heading left out."""
+    """(line number, cells, cells of the table's heading) of each row of a table, the rule under the heading left out."""
+    width = None
     for number, line in enumerate(text.splitlines(), 1):
-        if line.startswith("|") and not re.fullmatch(r"[|\s:-]+", line):
-            yield number, [cell.strip() for cell in line.strip().strip("|").split("|")]
+        if not line.startswith("|"):
+            width = None
+        elif not re.fullmatch(r"[|\s:-]+", line):
+            cells = [cell.strip() for cell in line.strip().strip("|").split("|")]
+            width = width or len(cells)
+            yield number, cells, width
+
+
+def row_faults(number, cells, width):
+    if len(cells) != width or "" in cells:
+        yield "line %d: a row of this table has %d cells, each with something in it" % (number, width)
+    for token in tokens(" ".join(cells)):
+        for fault in faults_of(token):
+            yield "line %d: `%s`: %s" % (number, token, fault)
+
+
+def long_lines(text):
+    lengths = enumerate(map(len, text.splitlines()), 1)
+    return ["line %d has %d characters; %d is the most" % (number, length, LONGEST_LINE) for number, length in lengths if length > LONGEST_LINE]
 
 
 def main():
-    everything = crate_text()
-    faults, tokens, width = [], 0, None
-    for number, cells in rows(TRACE.read_text(encoding="utf-8")):
-        width = width or len(cells)
-        if len(cells) != width or "" in cells:
-            faults.append("line %d: a row has %d full cells, each with something in it" % (number, width))
-        for token in re.findall(r"`([^`]+)`", " ".join(cells)):
-            tokens += 1
-            missing = fault(token, everything)
-            if missing:
-                faults.append("line %d: `%s`: %s" % (number, token, missing))
+    text = TRACE.read_text(encoding="utf-8")
+    table = list(rows(text))
+    faults = long_lines(text) + [fault for row in table for fault in row_faults(*row)]
     for line in faults:
         print("docs/TRACE.md " + line, file=sys.stderr)
-    if faults or not tokens:
-        sys.exit("check_trace: %d faults in %d names" % (len(faults), tokens))
-    print("check_trace: %d names exist" % tokens)
+    count = sum(len(tokens(" ".join(cells))) for _, cells, _ in table)
+    if faults or not count:
+        sys.exit("check_trace: %d faults in %d names" % (len(faults), count))
+    print("check_trace: %d rows, %d names exist" % (len(table), count))
 
 
 if __name__ == "__main__":
