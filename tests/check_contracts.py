@@ -5,7 +5,8 @@
 
 Of every public function: it has an `ensures`; the result is given by an equation, `r ≡ ..`; it has no `requires`; docs/TRACE.md
 names it. Of those of an entry crate also: each parameter is spoken of, what is lent by `&` is said to be unchanged, and what is
-lent by `&mut` is spoken of at `.exit`. What departs from this stands below with its reason, and must still be needed."""
+lent by `&mut` is spoken of at `.exit`. What departs from this stands below with its reason and must still be needed; a `requires`
+of an entry crate has no exception."""
 
 import re
 import sys
@@ -51,7 +52,7 @@ def is_equation(promise):
     return match is not None and not mentions(match["result"], match["value"])
 
 
-def lending_faults(name, kind, promises):
+def parameter_faults(name, kind, promises):
     """What the promises of an entry point leave unsaid about one parameter."""
     if kind.startswith("&mut") and not mentions(name + " .exit", promises):
         yield "exit " + name
@@ -67,12 +68,12 @@ def contract_faults(function, is_entry):
         yield "ensures"
         return
     if function.requires:
-        yield "requires"
+        yield "never requires" if is_entry else "requires"
     if not any(map(is_equation, function.ensures)):
         yield "equation"
     if is_entry:
         for name, kind in function.parameters:
-            yield from lending_faults(name, kind, " ".join(function.ensures))
+            yield from parameter_faults(name, kind, " ".join(function.ensures))
 
 
 def faults_of(crates, entry_crates, exceptions, traced):
@@ -82,8 +83,9 @@ def faults_of(crates, entry_crates, exceptions, traced):
         for function in (f for f in listed if f.public):
             name = "%s::%s" % (crate, function.name)
             faults = list(contract_faults(function, crate in entry_crates))
-            used |= {(name, fault) for fault in faults} & set(exceptions)
-            found += ["%s: %s" % (name, MEANING[fault.split()[0]] % fault.split()[-1]) for fault in faults if (name, fault) not in exceptions]
+            excused = {fault for fault in faults if (name, fault) in exceptions and fault != "never requires"}
+            used |= {(name, fault) for fault in excused}
+            found += ["%s: %s" % (name, MEANING[fault.split()[0]] % fault.split()[-1]) for fault in faults if fault not in excused]
             if name not in traced:
                 found.append("%s: docs/TRACE.md does not name it" % name)
     unused = sorted(set(exceptions) - used)
@@ -92,7 +94,8 @@ def faults_of(crates, entry_crates, exceptions, traced):
 
 MEANING = {
     "ensures": "it has no %s, so it promises nothing",
-    "requires": "it has a %s that is not on the list in tests/check_contracts.py",
+    "requires": "it has a %s that is not among the exceptions in tests/check_contracts.py",
+    "never": "it is an entry point and has a %s",
     "equation": "no promise is an %s `r ≡ ..` of its result",
     "unchanged": "no promise says that the lent `%s` is unchanged",
     "exit": "no promise speaks of what `%s` holds at the end",
@@ -135,7 +138,7 @@ FAULTS = (
     ("    ensures { λ r. ⌜ r ≡ sizeOf self ⌝ }\n", "    requires { ⌜ 0 < 1 ⌝ }\n", "it has no ensures"),
     ("        ensures { λ r. ⌜ r ≡ sizeOf self ⌝ }\n    {", "    {", "it has no ensures"),
     ("        ensures { λ r. ⌜ r ≡ sizeOf self ⌝ }", "        // ensures { λ r. ⌜ r ≡ sizeOf self ⌝ }", "it has no ensures"),
-    (") -> [u32; 2]\n", ") -> [u32; 2]\n    requires { ⌜ x < 5 ⌝ }\n", "it has a requires"),
+    (") -> [u32; 2]\n", ") -> [u32; 2]\n    requires { ⌜ x < 5 ⌝ }\n", "it is an entry point"),
     ("r ≡ sum x (now (edges .entry))", "sum x (now (edges .entry)) ≤ 5", "no promise is an equation"),
     ("r ≡ sizeOf self", "r ≡ cond (leb r self) r self", "no promise is an equation"),
     ("now (edges .exit) ≡ now (edges .entry)", "now (edges .entry) ≡ now (edges .entry)", "the lent `edges` is unchanged"),
@@ -148,7 +151,7 @@ FAULTS = (
 
 def self_test():
     """Each fault is found where it is put in, none where it is not, and an exception only where it is needed."""
-    check = lambda text, exceptions={}: faults_of({"good": functions(text)}, ("good",), exceptions, TRACED)
+    check = lambda text, exceptions={}, entry=("good",): faults_of({"good": functions(text)}, entry, exceptions, TRACED)
     assert check(GOOD) == [], check(GOOD)
     for old, new, words in FAULTS:
         assert GOOD.count(old) == 1, old
@@ -156,12 +159,14 @@ def self_test():
         assert any(words in fault for fault in found), (words, found)
     bounded = GOOD.replace(") -> [u32; 2]\n", ") -> [u32; 2]\n    requires { ⌜ x < 5 ⌝ }\n")
     reason = {("good::add", "requires"): "x is small"}
-    assert check(bounded, reason) == [], check(bounded, reason)
-    assert check(GOOD, reason) == ["good::add: the exception 'requires' is not needed"], check(GOOD, reason)
+    assert "not among the exceptions" in " ".join(check(bounded, {}, ()))
+    assert check(bounded, reason, ()) == [], check(bounded, reason, ())
+    assert check(GOOD, reason, ()) == ["good::add: the exception 'requires' is not needed"], check(GOOD, reason, ())
+    assert len(check(bounded, {("good::add", "never requires"): "x is small"})) == 2
     try:
         functions(GOOD.replace("pub fn add", "pub unsafe fn add"))
     except ValueError:
-        print("check_contracts: the self-test found all %d faults" % (len(FAULTS) + 2))
+        print("check_contracts: the self-test found all %d faults" % (len(FAULTS) + 4))
     else:
         sys.exit("check_contracts: a function that is not read goes unnoticed")
 

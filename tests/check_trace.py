@@ -112,7 +112,8 @@ def row_faults(number, cells, width):
 
 def long_lines(text):
     lengths = enumerate(map(len, text.splitlines()), 1)
-    return ["line %d has %d characters; %d is the most" % (number, length, LONGEST_LINE) for number, length in lengths if length > LONGEST_LINE]
+    too_long = (pair for pair in lengths if pair[1] > LONGEST_LINE)
+    return ["line %d has %d characters; %d is the most" % (*pair, LONGEST_LINE) for pair in too_long]
 
 
 def main():
