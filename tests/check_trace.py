@@ -7,7 +7,8 @@
     `cct!ends_swapped`     the must-fail edit crates/cct/must-fail/ends_swapped.edit
     `tests/fuzz`           a path
 
-Several names after one mark are separated by commas: `cct::answer_uv, answer_reading`."""
+Several names after one mark are separated by commas: `cct::answer_uv, answer_reading`. Outside backticks `vectors uv, xy`
+stands for lines of crates/vectors/stdin by their first word, and there must be some."""
 
 import re
 import sys
@@ -90,6 +91,12 @@ def named_functions(text):
     return {"%s::%s" % (crate, name) for crate, _, mark, names in split if mark == "::" for name in names}
 
 
+def vector_faults(cell, kinds):
+    """The kinds of vectors that a cell names and that do not exist."""
+    named = re.match(r"vectors (\w+(?:, \w+)*)", cell)
+    return ["no vectors `%s`" % kind for kind in named[1].split(", ") if kind not in kinds] if named else []
+
+
 def rows(text):
     """(line number, cells, cells of the table's heading) of each row of a table, the rule under the heading left out."""
     width = None
@@ -102,9 +109,11 @@ def rows(text):
             yield number, cells, width
 
 
-def row_faults(number, cells, width):
+def row_faults(number, cells, width, kinds):
     if len(cells) != width or "" in cells:
         yield "line %d: a row of this table has %d cells, each with something in it" % (number, width)
+    for cell in cells:
+        yield from ("line %d: %s" % (number, fault) for fault in vector_faults(cell, kinds))
     for token in tokens(" ".join(cells)):
         for fault in faults_of(token):
             yield "line %d: `%s`: %s" % (number, token, fault)
@@ -119,7 +128,8 @@ def long_lines(text):
 def main():
     text = TRACE.read_text(encoding="utf-8")
     table = list(rows(text))
-    faults = long_lines(text) + [fault for row in table for fault in row_faults(*row)]
+    kinds = {line.split()[0] for line in (CRATES / "vectors" / "stdin").read_text().splitlines()}
+    faults = long_lines(text) + [fault for row in table for fault in row_faults(*row, kinds)]
     for line in faults:
         print("docs/TRACE.md " + line, file=sys.stderr)
     count = sum(len(tokens(" ".join(cells))) for _, cells, _ in table)
