@@ -1,7 +1,8 @@
 """The rules of document 01 in exact whole numbers and fractions: the independent second program.
 
-It follows the document's own words, letters and sections, and has neither code nor formulas in common with the crates:
-the locus goes by mired, the bracket by its three cases, the nearest point by all points seen, the class by kelvin.
+It follows the document's own words, letters and sections and shares no code with the crates. Where a rule can be said in
+another way than there, it is: the locus goes by mired, the bracket by its three cases, the nearest point seen by all points
+seen, the class by the kelvin of each place.
 """
 
 import re
@@ -230,7 +231,7 @@ def signed_duv(reading, place):
     return d if reading[1] >= locus_point(place)[1] else -d
 
 
-# --- Classes ---------------------------------------------------------------------------------------------------------
+# --- Classes ----------------------------------------------------------------------------------------------------------
 
 NO_CLASS = 255
 
