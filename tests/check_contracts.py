@@ -138,6 +138,7 @@ FAULTS = (
     ("    ensures { λ r. ⌜ r ≡ sizeOf self ⌝ }\n", "    requires { ⌜ 0 < 1 ⌝ }\n", "it has no ensures"),
     ("        ensures { λ r. ⌜ r ≡ sizeOf self ⌝ }\n    {", "    {", "it has no ensures"),
     ("        ensures { λ r. ⌜ r ≡ sizeOf self ⌝ }", "        // ensures { λ r. ⌜ r ≡ sizeOf self ⌝ }", "it has no ensures"),
+    ("        ensures { λ r. ⌜ r ≡ sizeOf self ⌝ }", "        /* ensures { λ r. ⌜ r ≡ sizeOf self ⌝ } */", "it has no ensures"),
     (") -> [u32; 2]\n", ") -> [u32; 2]\n    requires { ⌜ x < 5 ⌝ }\n", "it is an entry point"),
     ("r ≡ sum x (now (edges .entry))", "sum x (now (edges .entry)) ≤ 5", "no promise is an equation"),
     ("r ≡ sizeOf self", "r ≡ cond (leb r self) r self", "no promise is an equation"),

@@ -20,8 +20,7 @@ class Function(NamedTuple):
 
 
 def without_comments(text):
-    """The text with each comment replaced by nothing; line ends stay."""
-    return re.sub(r"//[^\n]*", "", text)
+    return re.sub(r"//[^\n]*|/\*.*?\*/", "", text, flags=re.DOTALL)
 
 
 def closing(text, at):
