@@ -2,6 +2,7 @@
 LIB := target/lib
 SOURCES := crates.txt $(shell find crates -path '*/must-fail' -prune -o \( -name '*.rt' -o -name '*.antt' \) -print)
 
+.DELETE_ON_ERROR:
 .PHONY: lib
 lib: $(LIB)/libcradlekeel.a $(LIB)/libcradlekeel.so
 

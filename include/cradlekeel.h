@@ -1,10 +1,13 @@
 /* Cradlekeel: the correlated colour temperature, Duv and temperature class of one colour reading.
  *
- * Build the library with `make lib`; link target/lib/libcradlekeel.a or target/lib/libcradlekeel.so.
+ * Build the library with `make lib`, and again after `.ci/run`, which empties target/; link target/lib/libcradlekeel.a or
+ * target/lib/libcradlekeel.so. From examples/lamp.c, a whole program:
  *
- *     const uint32_t edges[] = {1600, 2500, 3500, 5000, 20001};
- *     ck_answer a = ck_read_xy(0.3127f, 0.3290f, edges, 5, 14);
- *     if (a.whole.refusal == CK_ACCEPTED) printf("%.0f K, Duv %+.4f\n", a.kelvin, a.duv); // 6518 K, Duv +0.0032
+ *     ck_answer a = ck_read_xy(x, y, edges, 5, 14);
+ *     if (a.whole.refusal != CK_ACCEPTED) {
+ *         printf("refusal %d: %s\n", a.whole.refusal, reasons[a.whole.refusal]);
+ *         return 1;
+ *     }
  *
  * Promised of every function, for every value of its arguments, and proved of the code that the library is compiled from
  * (crates/cct_c and the crates below it):

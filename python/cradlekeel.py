@@ -5,7 +5,8 @@
 >>> round(answer.kelvin), answer.duv, answer.class_index
 (6518, 0.003241, 3)
 
-Build the library first: `make lib` in the repository's root. Only Python's standard library is used.
+Build the library first: `make lib` in the repository's root, and again after `.ci/run`, which empties target/. Only Python's
+standard library is used. examples/lamp.py is a whole program.
 
 The library takes single-precision floats. A Python float is a double, and it is rounded to the nearest single when it is
 handed over: 0.3127 is answered as 0.312700003385543823..., and 0.99999999 becomes 1 and is refused. What then happens to the

@@ -1,10 +1,11 @@
-"""Runs the answer vectors of tests/make_vectors.py through python/cradlekeel.py, and that module's own examples.
+"""Runs the answer vectors of tests/make_vectors.py through python/cradlekeel.py, that module's own examples, and examples/.
 
-    python3 tests/abi_test.py
+    python3 tests/abi_test.py     (tests/run-abi calls it, with examples/lamp.c compiled to target/abi/lamp)
 """
 
 import doctest
 import os
+import re
 import struct
 import subprocess
 import sys
@@ -16,6 +17,7 @@ ROOT = Path(__file__).resolve().parent.parent
 sys.path.insert(0, str(ROOT / "python"))
 
 import cradlekeel
+import reference
 
 READERS = {"uv": (cradlekeel.read_uv, "ck_read_uv"), "uvp": (cradlekeel.read_uv_prime, "ck_read_uvp"),
            "xy": (cradlekeel.read_xy, "ck_read_xy"), "xyz": (cradlekeel.read_xyz, "ck_read_xyz"),
@@ -92,13 +94,60 @@ def check_missing_library():
     assert ran.returncode == 1 and "LibraryMissing" in ran.stderr and f"make -C {ROOT} lib" in ran.stderr, ran.stderr
 
 
+# x and y of lamps with a class, without one, and with each refusal that x and y can meet.
+LAMPS = ("0.3127 0.3290", "0.4476 0.4074", "0.3451 0.3515", "nan 0.3", "0.3 1", "0.23 0.2825", "0.23 0.23", "0.5065 0.3231")
+NO_LAMPS = ("", "0.3127", "0,3127 0,3290", "x y", "0.3127 0.3290 5000")
+
+
+def lamp_line(lamp):
+    """What an example prints by the second program, up to a refusal's words, and its exit status."""
+    bits = [struct.unpack("<I", struct.pack("<f", float(number)))[0] for number in lamp.split()]
+    given = reference.answer("xy", bits, cradlekeel.EDGES, cradlekeel.STEPS)
+    if given.refusal:
+        return f"refusal {given.refusal}: ", 1
+    kelvin, low, high = (reference.KELVIN_PLACES / place for place in (given.place, given.high, given.low))
+    shown = "no class" if given.cls == reference.NO_CLASS else f"class {given.cls}"
+    return f"{kelvin:.1f} K, Duv {given.duv / reference.MICRO:+.6f}, range {low:.1f} to {high:.1f} K, {shown}\n", 0
+
+
+def check_examples():
+    for command in ([ROOT / "target/abi/lamp"], [sys.executable, ROOT / "examples/lamp.py"]):
+        for lamp in LAMPS:
+            expected, status = lamp_line(lamp)
+            ran = subprocess.run([*command, *lamp.split()], capture_output=True, text=True)
+            assert ran.stdout.startswith(expected) and ran.stdout.count("\n") == 1, f"{lamp}: expected {expected}found {ran}"
+            assert ran.returncode == status and not ran.stderr, f"{lamp}: {ran}"
+        for words in NO_LAMPS:
+            ran = subprocess.run([*command, *words.split()], capture_output=True, text=True)
+            assert ran.returncode == 2 and ran.stderr.startswith("usage: lamp") and not ran.stdout, f"{words}: {ran}"
+
+
+def check_shown(where, shown, example):
+    """Each line that a document shows of an example stands in it, in the same order."""
+    rest = iter((ROOT / example).read_text().splitlines())
+    for line in filter(str.strip, shown):
+        assert line in rest, f"{where} shows a line that {example} does not have there: {line}"
+
+
+def check_documents():
+    """The example in the header, and the README's blocks under a comment that names a file of examples/."""
+    header = (ROOT / "include/cradlekeel.h").read_text().split("*/")[0].splitlines()
+    check_shown("include/cradlekeel.h", [line[3:] for line in header if line.startswith(" *     ")], "examples/lamp.c")
+    blocks = re.findall(r"<!-- (examples/\S+) -->\s*```\w+\n(.*?)```", (ROOT / "README.md").read_text(), re.DOTALL)
+    for example, block in blocks:
+        check_shown("README.md", block.splitlines(), example)
+    return len(blocks)
+
+
 def main():
     count = run_vectors()
     check_whole_numbers()
     check_missing_library()
+    check_examples()
+    blocks = check_documents()
     examples = doctest.testmod(cradlekeel)
     print(f"abi_test.py: {count} vectors, each by the C function and by the Python one; {examples.attempted} examples, "
-          f"{examples.failed} failures")
+          f"{examples.failed} failures; {len(LAMPS)} lamps by each of examples/; {blocks} blocks of README.md")
     sys.exit(examples.failed != 0)
 
 
