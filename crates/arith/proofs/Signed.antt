@@ -8,18 +8,16 @@ use lib.Signed.{mag, ltZ, nonNeg}
 use lib.Dec.{T}
 use borrow.Author.Tests.{ltb-true}
 use mir.Syntax.{w32, w64}
-use mir.Val.{SFits, Fits, toZ, ofZ}
-use mir.Facts.{sfits-widen, toZ-ofZ}
+use mir.Val.{SFits, Fits}
+use mir.Facts.{sfits-widen}
+use Rattle.arith.specs.SignedLaws.{read, back}
 
--- a number as the machine reads it back from 32 bits; negated in 64 bits
-abbrev read : ℤ → ℤ
-read z = toZ w32 (ofZ w32 z)
-
-abbrev minus : ℤ → ℤ
-minus z = pos 0 -ℤ toZ w64 (ofZ w64 (read z))
+-- z through the two casts: widened to 64 bits, and negated there
+abbrev wide : ℤ → ℤ
+wide z = read w64 (read w32 z)
 
 abbrev negated : ℤ → ℤ
-negated z = toZ w64 (ofZ w64 (minus z))
+negated z = read w64 (pos 0 -ℤ wide z)
 
 mag-neg : (z : ℤ) → mag (negℤ z) ≤ suc (mag z)
 mag-neg (pos zero) = omega arith
@@ -45,32 +43,29 @@ not-neg (pos n) h = tt
 not-neg (negsuc n) h = absurd (true≢false h)
 
 module _ {z : ℤ} (fits : SFits w32 z) where
-  back : read z ≡ z
-  back = toZ-ofZ fits
+  pub widens : SFits w64 (read w32 z)
+  widens = rw (back fits) (sfits-widen tt fits)
 
-  pub widens : SFits w64 (read z)
-  widens = subst⁻¹ (SFits w64) back (sfits-widen tt fits)
+  wide-is : wide z ≡ z
+  wide-is = back {w = w64} widens ∙ back fits
 
-  minus-is : minus z ≡ negℤ z
-  minus-is = ap (λ (y : ℤ). pos 0 -ℤ toZ w64 (ofZ w64 y)) back ∙ ap (λ (y : ℤ). pos 0 -ℤ y) (toZ-ofZ {w = w64} (sfits-widen tt fits)) ∙ +ℤ-idl (negℤ z)
+  minus-is : pos 0 -ℤ wide z ≡ negℤ z
+  minus-is = ap (λ (y : ℤ). pos 0 -ℤ y) wide-is ∙ +ℤ-idl (negℤ z)
 
-  neg-fits : SFits w64 (negℤ z)
-  neg-fits = record { sfits = omega (arith, mag-neg z, fits .sfits) }
-
-  pub minus-fits : SFits w64 (minus z)
-  minus-fits = subst⁻¹ (SFits w64) minus-is neg-fits
+  pub minus-fits : SFits w64 (pos 0 -ℤ wide z)
+  minus-fits = subst⁻¹ (SFits w64) minus-is (record { sfits = omega (arith, mag-neg z, fits .sfits) })
 
   negated-is : negated z ≡ negℤ z
-  negated-is = ap (λ (y : ℤ). toZ w64 (ofZ w64 y)) minus-is ∙ toZ-ofZ {w = w64} neg-fits
+  negated-is = back {w = w64} minus-fits ∙ minus-is
 
   abs-fits : Fits w32 (natAbs z)
   abs-fits = record { fits = omega (arith, abs-mag z, fits .sfits) }
 
-  pub down : ltZ (read z) (pos 0) ≡ true → T (nonNeg (negated z)) × Fits w32 (natAbs (negated z))
-  down h = rw (negated-is, abs-neg) (neg-up z (rw back at h), abs-fits)
+  pub down : ltZ (read w32 z) (pos 0) ≡ true → T (nonNeg (negated z)) × Fits w32 (natAbs (negated z))
+  down h = rw (negated-is, abs-neg) (neg-up z (rw (back fits) at h), abs-fits)
 
   pub size-neg : natAbs (negated z) ≡ natAbs z
   size-neg = ap natAbs negated-is ∙ abs-neg z
 
-  pub up : ltZ (read z) (pos 0) ≡ false → T (nonNeg (read z)) × Fits w32 (natAbs (read z))
-  up h = rw back (not-neg z (rw back at h), abs-fits)
+  pub up : ltZ (read w32 z) (pos 0) ≡ false → T (nonNeg (read w32 z)) × Fits w32 (natAbs (read w32 z))
+  up h = rw (back fits) (not-neg z (rw (back fits) at h), abs-fits)

@@ -8,3 +8,4 @@ pub mod LeastLaws
 pub mod Every
 pub mod EveryLaws
 pub mod TestLaws
+pub mod SignedLaws

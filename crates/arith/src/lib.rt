@@ -5,11 +5,13 @@ ghost use lib.IntN.{natAbs};
 ghost use Rattle.arith.specs.Rounding.{nearestQuotient};
 ghost use Rattle.arith.specs.Root.{root};
 
-// a / b to the nearest whole number, halves up. The remainder decides, so that nothing can overflow.
+// a / b to the nearest whole number, halves up; 0 where b is 0. The remainder decides, so that nothing can overflow.
 pub fn nearest_quotient(a: u64, b: u64) -> u64
-    requires { ⌜ 0 < b ⌝ }
     ensures { λ r. ⌜ r ≡ nearestQuotient a b ⌝ }
 {
+    if b == 0 {
+        return 0;
+    }
     let quotient = a / b;
     let remainder = a % b;
     if b - remainder <= remainder {

@@ -3,9 +3,9 @@ use Prim.Native.Nat.{ℕ, _+_, _*_, _/_, _%_, _≤_, _<_}
 use native.Mathlib.Nat.{div-add-mod', mod-lt, mul-le-mul-left}
 use native.Mathlib.Omega.{arith}
 use borrow.Author.Needs.{needs}
-use mathlib.Core.Path.{_≡_, sym}
+use mathlib.Core.Path.{_≡_, sym, ap, _∙_}
 use Rattle.arith.specs.Rounding.{nearestQuotient}
-use Rattle.arith.specs.RoundingLaws.{nearest-unique}
+use Rattle.arith.specs.RoundingLaws.{nearest-zero, nearest-unique}
 use Rattle.arith.proofs.nearest_quotient.Statement.{statement}
 use Rattle.arith.proofs.nearest_quotient.Tie as tie
 
@@ -28,32 +28,36 @@ room a b pos h =
     let m : a / b * 1 ≤ a / b * b = mul-le-mul-left (a / b) pos in
     omega arith
 
+returns : tie.Need-returns
+returns c = sym (ap (nearestQuotient (c .before .args .a)) (c .if1 .taken) ∙ nearest-zero (c .before .args .a))
+
 div-quotient : tie.Need-div-quotient
 div-quotient c = search needs
 
 rem-remainder : tie.Need-rem-remainder
 rem-remainder c = search needs
 
-sub-if1 : tie.Need-sub-if1
-sub-if1 c = omega (arith, mod-lt (c .args .a) (c .pre))
+some : (c : tie.Else1) → 0 < c .before .args .b
+some c = omega arith
+
+sub-if2 : tie.Need-sub-if2
+sub-if2 c = omega (arith, mod-lt (c .before .args .a) (some c))
+
+-- the remainder on each side of the test
+high : (c : tie.Then2) → let g = c .before .before .args in g .b ≤ 2 * (g .a % g .b)
+high c = omega (arith, mod-lt (c .before .before .args .a) (some (c .before)))
+
+low : (c : tie.Else2) → let g = c .before .before .args in 2 * (g .a % g .b) < g .b
+low c = omega (arith, mod-lt (c .before .before .args .a) (some (c .before)))
 
 add-result : tie.Need-add-result
-add-result c =
-    let a = c .before .args .a in
-    let b = c .before .args .b in
-    omega (arith, room a b (c .before .pre) (omega (arith, mod-lt a (c .before .pre))))
-
-returns : tie.Need-returns
-returns c =
-    let a = c .before .args .a in
-    let b = c .before .args .b in
-    sym (up a b (c .before .pre) (omega (arith, mod-lt a (c .before .pre))))
+add-result c = omega (arith, room _ _ (some (c .before)) (high c))
 
 returns-2 : tie.Need-returns-2
-returns-2 c =
-    let a = c .before .args .a in
-    let b = c .before .args .b in
-    sym (down a b (c .before .pre) (omega (arith, mod-lt a (c .before .pre))))
+returns-2 c = sym (up _ _ (some (c .before)) (high c))
+
+returns-3 : tie.Need-returns-3
+returns-3 c = sym (down _ _ (some (c .before)) (low c))
 
 pub nearest-quotient-spec : {M : Type 1} → statement M
-nearest-quotient-spec = tie.close (tie.spec div-quotient rem-remainder sub-if1 add-result returns returns-2)
+nearest-quotient-spec = tie.close (tie.spec returns div-quotient rem-remainder sub-if2 add-result returns-2 returns-3)
