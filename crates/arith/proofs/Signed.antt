@@ -9,7 +9,7 @@ use lib.Dec.{T}
 use borrow.Author.Tests.{ltb-true}
 use mir.Syntax.{w32, w64}
 use mir.Val.{SFits, Fits}
-use mir.Facts.{sfits-widen}
+use mir.Facts.{sfits-widen, fits-natAbs}
 use Rattle.arith.specs.SignedLaws.{read, back}
 
 -- z through the two casts: widened to 64 bits, and negated there
@@ -23,10 +23,6 @@ mag-neg : (z : ℤ) → mag (negℤ z) ≤ suc (mag z)
 mag-neg (pos zero) = omega arith
 mag-neg (pos (suc n)) = omega arith
 mag-neg (negsuc n) = omega arith
-
-abs-mag : (z : ℤ) → natAbs z ≤ suc (mag z)
-abs-mag (pos n) = omega arith
-abs-mag (negsuc n) = omega arith
 
 abs-neg : (z : ℤ) → natAbs (negℤ z) ≡ natAbs z
 abs-neg (pos zero) = refl
@@ -59,13 +55,16 @@ module _ {z : ℤ} (fits : SFits w32 z) where
   negated-is = back {w = w64} minus-fits ∙ minus-is
 
   abs-fits : Fits w32 (natAbs z)
-  abs-fits = record { fits = omega (arith, abs-mag z, fits .sfits) }
+  abs-fits = fits-natAbs tt fits
 
   pub down : ltZ (read w32 z) (pos 0) ≡ true → T (nonNeg (negated z)) × Fits w32 (natAbs (negated z))
   down h = rw (negated-is, abs-neg) (neg-up z (rw (back fits) at h), abs-fits)
 
   pub size-neg : natAbs (negated z) ≡ natAbs z
   size-neg = ap natAbs negated-is ∙ abs-neg z
+
+  pub size-pos : natAbs (read w32 z) ≡ natAbs z
+  size-pos = ap natAbs (back fits)
 
   pub up : ltZ (read w32 z) (pos 0) ≡ false → T (nonNeg (read w32 z)) × Fits w32 (natAbs (read w32 z))
   up h = rw (back fits) (not-neg z (rw (back fits) at h), abs-fits)

@@ -1,6 +1,5 @@
 -- `magnitude` meets its contract: the casts keep the number, by the laws of Signed.
-use Rattle.arith.proofs.Signed.{widens, minus-fits, down, size-neg, up}
-use borrow.Author.Needs.{needs}
+use Rattle.arith.proofs.Signed.{widens, minus-fits, down, size-neg, up, size-pos}
 use Rattle.arith.proofs.magnitude.Statement.{statement}
 use Rattle.arith.proofs.magnitude.Tie as tie
 
@@ -20,7 +19,7 @@ cast-result-3 : tie.Need-cast-result-3
 cast-result-3 c = up (c .before .fits .z) (c .if1 .left)
 
 returns-2 : tie.Need-returns-2
-returns-2 c = search needs
+returns-2 c = size-pos (c .before .fits .z)
 
 pub magnitude-spec : {M : Type 1} → statement M
 magnitude-spec = tie.close (tie.spec cast-result sub-result cast-result-2 returns cast-result-3 returns-2)
