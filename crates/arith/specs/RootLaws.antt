@@ -1,5 +1,5 @@
 -- `root n` is the largest whole number whose square is at most n, for every n below 2 ^ 64, and the only one.
-use mathlib.Core.Path.{_≡_, refl, ap, sym, _∙_}
+use mathlib.Core.Path.{_≡_, refl}
 use mathlib.Core.Bool.{Bool, true, false, cond}
 use Prim.Native.Nat.{ℕ, zero, suc, _+_, _*_, _^_, _/_, _≤_, _<_}
 use native.Mathlib.Nat.{mul-le-mul, pow-suc}

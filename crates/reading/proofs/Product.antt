@@ -9,11 +9,10 @@ use lib.Dec.{T, leb, ltb, eqb, lit<, lit≤, leb→le, ltb→lt, eqb→eq}
 use lib.Pow.{pow-add, pow-pos, pow-lt}
 use lib.Ieee.{Float, Format, nan, inf, fin, binary32, binary64, prec, up, down, round, mul, ofInt, fits, isNan}
 use lib.Ieee.Digits.{back}
-use lib.Ieee.Fits.{up-pos, down-pos, and-l, and-r}
+use lib.Ieee.Fits.{up-pos, down-pos}
 use lib.Ieee.Exact.{HasValue, round-exact}
 use lib.Ieee.Back.{round-whole}
-use lib.Ieee.Scale.{round-same}
-use Rattle.reading.specs.Whole.{finite}
+use lib.Ieee.Scale.{finite, round-same}
 use Rattle.reading.specs.Code.Product.{IsProduct}
 
 -- a whole number as a float of either format
@@ -27,6 +26,13 @@ record Small (m : ℕ) (e : ℤ) : Type 0 where
   deep : down e ≤ 2 ^ 149
   high : m * up e < 2 ^ 128 * down e
 
+-- what passes four tests passes the last three
+last-three : (a b c d : Bool) → T (a && b && c && d) → T b × T c × T d
+last-three false b c d t = absurd t
+last-three true false c d t = absurd t
+last-three true true false d t = absurd t
+last-three true true true d t = (tt, tt, t)
+
 small : (s : Bool) (m : ℕ) (e : ℤ) → T (fits binary32 (fin s m e)) → Small m e
 unfolding fits
 small s zero e t =
@@ -38,14 +44,11 @@ small s zero e t =
       high = subst (λ (x : ℕ). x < 2 ^ 128 * down e) (sym (zero-mul (up e))) (mul-pos (lit< tt) (down-pos e));
     }
 small s (suc m) e t =
-    let a : Bool = eqb (suc m % 2) 1 in
-    let b : Bool = ltb (suc m) (2 ^ 24) in
-    let c : Bool = leb (down e) (2 ^ 149) in
-    let d : Bool = ltb (suc m * up e) (2 ^ 128 * down e) in
+    let k = last-three (eqb (suc m % 2) 1) (ltb (suc m) (2 ^ 24)) (leb (down e) (2 ^ 149)) (ltb (suc m * up e) (2 ^ 128 * down e)) t in
     record {
-      digits = ltb→lt (suc m) (2 ^ 24) (and-r a b (and-l (a && b) c (and-l (a && b && c) d t)));
-      deep = leb→le (down e) (2 ^ 149) (and-r (a && b) c (and-l (a && b && c) d t));
-      high = ltb→lt (suc m * up e) (2 ^ 128 * down e) (and-r (a && b && c) d t);
+      digits = ltb→lt (suc m) (2 ^ 24) (k .0);
+      deep = leb→le (down e) (2 ^ 149) (k .1);
+      high = ltb→lt (suc m * up e) (2 ^ 128 * down e) (k .2);
     }
 
 -- 2 ^ e in units of 2 ^ -1074 is a power of two

@@ -9,8 +9,9 @@ use lib.Dec.{ltb}
 use borrow.Author.Tests.{lt-ltb, le-ltb, ltb-true, ltb-false}
 use lib.Ieee.{Float, nan, inf, fin, up, down, lt}
 use lib.Ieee.Fits.{down-pos}
+use lib.Ieee.Scale.{finite}
 use lib.Ieee.Exact.{HasValue}
-use Rattle.reading.specs.Whole.{finite, inRange}
+use Rattle.reading.specs.Whole.{inRange}
 use Rattle.reading.specs.declared.Quantity.{Quantity}
 
 pub finite-same : (x : Float) → lt (inf true) x && lt x (inf false) ≡ finite x

@@ -3,10 +3,11 @@ use Prim.Native.Nat.{ℕ, _+_, _-_, _*_}
 use mathlib.Core.Bool.{Bool, _&&_, cond}
 use lib.Dec.{leb, ltb}
 use lib.Ieee.{Float}
+use lib.Ieee.Scale.{finite}
 use Rattle.arith.specs.Units.{micro}
 use Rattle.arith.specs.Rounding.{nearestQuotient}
 use Rattle.refusal.specs.declared.Refusal.the-variants.{NotFinite, OutOfRange, TooDark}
-use Rattle.reading.specs.Whole.{coordinate, tristimulus, finite, inRange, toWhole}
+use Rattle.reading.specs.Whole.{coordinate, tristimulus, inRange, toWhole}
 use Rattle.reading.specs.declared.Reading.{Reading}
 use Rattle.reading.specs.declared.Reading.the-variants.{Uv, UvPrime, Xy, Xyz}
 use Rattle.reading.specs.declared.Converted.{Converted}
@@ -20,11 +21,12 @@ wholeLimit = 4000000
 abbrev pub leastY : ℕ
 leastY = 100000
 
--- Refusals 2 and 3, in the table's order, each judged over the whole reading.
-abbrev pub checked : Bool → Bool → Converted → Converted
-checked allFinite allInRange converted = cond allFinite (cond allInRange converted (Refused OutOfRange)) (Refused NotFinite)
+-- Refusals 2 and 3, in the table's order, each judged over the whole reading. The library's `finite x` says that x is neither
+-- infinite nor a NaN.
+abbrev pub judged : Bool → Bool → Converted → Converted
+judged allFinite allInRange converted = cond allFinite (cond allInRange converted (Refused OutOfRange)) (Refused NotFinite)
 
--- "Readings": u = 4x·10^6/n and v = 6y·10^6/n, for xy and for XYZ.
+-- "Readings", xy and XYZ: 4x and 6y, each times 10^6 and over n.
 abbrev pub pointOver : ℕ → ℕ → ℕ → Converted
 pointOver x y n = Point (nearestQuotient (4 * x * micro) n) (nearestQuotient (6 * y * micro) n)
 
@@ -47,13 +49,13 @@ ofXyz x y z = pointOver x y (x + 15 * y + 3 * z)
 -- Two coordinates, judged together, and what their whole numbers come to by the rule of their kind.
 unfoldable pub ofCoordinates : (ℕ → ℕ → Converted) → Float → Float → Converted
 ofCoordinates rule x y =
-    checked (finite x && finite y) (inRange coordinate x && inRange coordinate y)
+    judged (finite x && finite y) (inRange coordinate x && inRange coordinate y)
     (rule (toWhole coordinate x) (toWhole coordinate y))
 
 -- Three tristimulus values, judged together: after refusals 2 and 3, refusal 4 goes by the whole-number Y.
 unfoldable pub ofTristimulus : Float → Float → Float → Converted
 ofTristimulus x y z =
-    checked (finite x && finite y && finite z) (inRange tristimulus x && inRange tristimulus y && inRange tristimulus z)
+    judged (finite x && finite y && finite z) (inRange tristimulus x && inRange tristimulus y && inRange tristimulus z)
     (cond (ltb (toWhole tristimulus y) leastY) (Refused TooDark)
     (ofXyz (toWhole tristimulus x) (toWhole tristimulus y) (toWhole tristimulus z)))
 

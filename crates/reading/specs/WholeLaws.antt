@@ -5,11 +5,11 @@ use Prim.Native.Nat.{_*_, _≤_}
 use native.Mathlib.Nat.{le-trans, le-of-lt, le-of-eq, mul-right-comm, mul-le-mul-right}
 use lib.Dec.{ltb}
 use lib.Ieee.{Float, nan, inf, fin, up, down}
-use lib.Ieee.Fits.{down-pos}
+use lib.Ieee.Scale.{finite}
 use borrow.Author.Tests.{ltb-true}
-use Rattle.arith.specs.RoundingLaws.{nearest-le}
+use Rattle.arith.specs.RoundingLaws.{nearest-at-most}
 use Rattle.arith.specs.TestLaws.{and-both}
-use Rattle.reading.specs.Whole.{finite, inRange, toWhole}
+use Rattle.reading.specs.Whole.{inRange, toWhole}
 use Rattle.reading.specs.declared.Quantity.{Quantity}
 
 pub range-finite : (q : Quantity) (x : Float) → inRange q x ≡ true → finite x ≡ true
@@ -25,4 +25,4 @@ whole-le q nan h = absurd (false≢true h)
 whole-le q (inf s) h = absurd (false≢true h)
 whole-le q (fin s m e) h =
     let below = ltb-true _ _ (and-both (not (s && ltb 0 (m * up e))) (ltb (m * up e) (q .bound * down e)) h .1) in
-    nearest-le _ _ _ (down-pos e) (le-trans (mul-le-mul-right (q .scale) (le-of-lt below)) (le-of-eq (mul-right-comm (q .bound) (down e) (q .scale))))
+    nearest-at-most _ (down e) _ (le-trans (mul-le-mul-right (q .scale) (le-of-lt below)) (le-of-eq (mul-right-comm (q .bound) (down e) (q .scale))))

@@ -2,8 +2,10 @@
 use refusal::Refusal;
 ghost use mathlib.Core.Path.{_≡_};
 ghost use mathlib.Core.Bool.{true};
-ghost use Prim.Native.Nat.{_+_, _*_, _^_, _≤_, _<_};
-ghost use Rattle.reading.specs.Whole.{finite, inRange, toWhole};
+ghost use Prim.Native.Nat.{_*_, _^_, _≤_, _<_};
+ghost use lib.Ieee.Scale.{finite};
+ghost use Rattle.arith.specs.Units.{micro};
+ghost use Rattle.reading.specs.Whole.{inRange, toWhole};
 ghost use Rattle.reading.specs.Code.Product.{IsProduct};
 ghost use Rattle.reading.specs.Convert.{pointOver, ofUv, ofUvPrime, ofXy, ofXyz, ofCoordinates, ofTristimulus, convertReading, convertWhole};
 
@@ -87,9 +89,8 @@ fn to_whole(x: f32, quantity: Quantity) -> u32
     ((halves + 1) / 2) as u32
 }
 
-// u = 4x * 10^6 / n and v = 6y * 10^6 / n, neither above 4,000,000.
+// u and v over the divisor n of x, y or of X, Y, Z. The bounds on x and y keep both within 32 bits.
 fn point_over(x: u32, y: u32, n: u64) -> Converted
-    requires { ⌜ 0 < n ⌝ }
     requires { ⌜ x ≤ n ⌝ }
     requires { ⌜ 3 * y ≤ 2 * n ⌝ }
     ensures { λ r. ⌜ r ≡ pointOver x y n ⌝ }
@@ -108,7 +109,7 @@ fn of_uv_prime(u: u32, v: u32) -> Converted
 
 // u and v from x and y.
 fn of_xy(x: u32, y: u32) -> Converted
-    requires { ⌜ x ≤ 1000000 ⌝ }
+    requires { ⌜ x ≤ micro ⌝ }
     ensures { λ r. ⌜ r ≡ ofXy x y ⌝ }
 {
     point_over(x, y, 3 * MICRO as u64 + 12 * y as u64 - 2 * x as u64)
@@ -116,7 +117,6 @@ fn of_xy(x: u32, y: u32) -> Converted
 
 // u and v from X, Y and Z.
 fn of_xyz(x: u32, y: u32, z: u32) -> Converted
-    requires { ⌜ 0 < x + 15 * y + 3 * z ⌝ }
     ensures { λ r. ⌜ r ≡ ofXyz x y z ⌝ }
 {
     point_over(x, y, x as u64 + 15 * y as u64 + 3 * z as u64)

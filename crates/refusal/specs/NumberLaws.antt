@@ -18,7 +18,7 @@ number-positive TooHot = lit< tt
 number-positive TooCool = lit< tt
 number-positive BadLine = lit< tt
 
--- two refusals with one number are one refusal
+-- the refusal that has the number n
 refusalOf : ℕ → Refusal
 refusalOf n =
     cond (eqb n 1) BadEdges
@@ -38,5 +38,6 @@ of-number TooHot = refl
 of-number TooCool = refl
 of-number BadLine = refl
 
+-- two refusals with one number are one refusal
 pub number-injective : (r s : Refusal) → numberOf r ≡ numberOf s → r ≡ s
 number-injective r s e = sym (of-number r) ∙ ap refusalOf e ∙ of-number s

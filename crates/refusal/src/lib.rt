@@ -5,9 +5,9 @@ ghost use Rattle.refusal.specs.Number.{numberOf};
 pub enum Refusal {
     // The list of class edges breaks its rule.
     BadEdges,
-    // A float is infinite or not a number.
+    // A float that is infinite or a NaN.
     NotFinite,
-    // A number is outside its range.
+    // A number outside its range.
     OutOfRange,
     // Tristimulus values whose Y is too small.
     TooDark,

@@ -1,9 +1,10 @@
--- `coordinates` meets its contract: its two tests are those of `checked`, over the whole reading.
+-- `coordinates` meets its contract: its two tests are those of `judged`, over the whole reading.
 use borrow.Author.Needs.{needs}
 use mathlib.Core.Path.{_≡_}
 use mathlib.Core.Bool.{true, _&&_}
 use lib.Dec.{lit<, lit≤}
-use Rattle.reading.specs.Whole.{coordinate, finite, inRange}
+use lib.Ieee.Scale.{finite}
+use Rattle.reading.specs.Whole.{coordinate, inRange}
 use Rattle.reading.specs.Convert.{ofCoordinates}
 use Rattle.reading.proofs.Checks.{join, negated, passed}
 use Rattle.reading.proofs.coordinates.Statement.{statement}

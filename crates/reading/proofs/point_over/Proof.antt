@@ -1,4 +1,4 @@
--- `point_over` meets its contract: the quotients are arith's, and at most 4,000,000.
+-- `point_over` meets its contract: the quotients are arith's, and at most `wholeLimit`.
 use borrow.Author.Needs.{needs}
 use native.Mathlib.Omega.{arith}
 use Rattle.reading.specs.Convert.{pointOver}
@@ -7,7 +7,7 @@ use Rattle.reading.proofs.point_over.Statement.{statement}
 use Rattle.reading.proofs.point_over.Tie as tie
 
 within : (c : tie.Start) → Within (pointOver (c .args .x) (c .args .y) (c .args .n))
-within c = over-within _ _ _ (c .pre .0) (c .pre .1 .0) (c .pre .1 .1)
+within c = over-within _ _ _ (c .pre .0) (c .pre .1)
 
 cast-u : tie.Need-cast-t10
 cast-u c = let w = within (c .before .before) in omega arith

@@ -6,7 +6,8 @@ use mathlib.Core.Bool.{true, _&&_}
 use native.Mathlib.Omega.{arith}
 use Prim.Native.Nat.{_≤_, _<_}
 use lib.Dec.{lit<, lit≤}
-use Rattle.reading.specs.Whole.{tristimulus, finite, inRange, toWhole}
+use lib.Ieee.Scale.{finite}
+use Rattle.reading.specs.Whole.{tristimulus, inRange, toWhole}
 use Rattle.reading.specs.Convert.{leastY, ofTristimulus}
 use Rattle.reading.proofs.Checks.{join, negated, passed3}
 use Rattle.reading.proofs.tristimulus.Statement.{statement}
