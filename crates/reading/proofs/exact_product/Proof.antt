@@ -5,7 +5,10 @@ use Rattle.reading.proofs.exact_product.Statement.{statement}
 use Rattle.reading.proofs.exact_product.Tie as tie
 
 returns : tie.Need-returns
-returns c = search (needs, product-exact)
+returns c =
+    let a = c .before .before .args in
+    let p = c .before .before .pre in
+    product-exact (a .x) (a .n) (rw (c .before .before .good .0 .1) tt) (p .0) (p .1)
 
 pub exact-product-spec : {M : Type 1} → statement M
 exact-product-spec = tie.close (tie.spec (λ c. search (needs, no-nan)) (λ c. search needs) returns)
