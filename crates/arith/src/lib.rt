@@ -23,7 +23,6 @@ pub fn nearest_quotient(a: u64, b: u64) -> u64
 
 // A number of 32 bits that is not below the root of n: about Newton's step from the power of two near it. Which one decides only the time.
 fn first_guess(n: u64) -> u64
-    requires { ⌜ 1 ≤ n ⌝ }
     ensures { λ r. ⌜ (r ≤ 4294967295) × (n < (r + 1) * (r + 1)) ⌝ }
 {
     let half_bits = (64 - u64::leading_zeros(n)) / 2;
@@ -39,9 +38,6 @@ fn first_guess(n: u64) -> u64
 pub fn integer_root(n: u64) -> u32
     ensures { λ r. ⌜ r ≡ root n ⌝ }
 {
-    if n < 1 {
-        return 0;
-    }
     let mut guess = first_guess(n);
     while n < guess * guess {
         guess = (guess + n / guess) / 2;
