@@ -1,4 +1,4 @@
--- Newton's step for the square root: the mean of g and n / g is not below the root.
+-- Newton's step for the square root: the mean of g and n / g, cut to a whole number, is not below the root.
 use mathlib.Core.Path.{_≡_, refl}
 use mathlib.Core.Bool.{Bool, true, false}
 use Prim.Native.Nat.{ℕ, _+_, _-_, _*_, _/_, _%_, _≤_, _<_}

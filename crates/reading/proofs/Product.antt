@@ -1,4 +1,4 @@
--- An f32 times a whole number up to 2 ^ 29 is exact as an f64: at most 24 + 29 binary digits, in units of 2 ^ -1074.
+-- An f32 times a whole number up to 2 ^ 29 is exact as an f64: at most 53 binary digits, in units of 2 ^ -1074.
 use mathlib.Core.Path.{_≡_, sym, ap, _∙_, subst}
 use mathlib.Core.Bool.{Bool, true, false, not, _&&_, true≢false, false≢true}
 use Prim.Native.Nat.{ℕ, zero, suc, _+_, _-_, _*_, _%_, _^_, _≤_, _<_}

@@ -26,5 +26,6 @@ unfolding ofCoordinates
 by-rule rule x y e g =
     ap (on rule) (sym g ∙ e) ∙ on-judged rule (finite x && finite y) (inRange coordinate x && inRange coordinate y) (toWhole coordinate x) (toWhole coordinate y)
 
+-- two coordinates come to at most a million each
 pub small : (x y : Float) {o k : Converted} → o ≡ ofCoordinates ofUv x y → o ≡ k → UpTo micro k
 small x y e g = subst (UpTo micro) (sym e ∙ g) (coordinates-up-to micro ofUv (λ a b ha hb. (ha, hb)) x y)

@@ -21,7 +21,7 @@ wholeLimit = 4000000
 abbrev pub leastY : ℕ
 leastY = 100000
 
--- Refusals 2 and 3, in the table's order, each judged over the whole reading. The library's `finite x` says that x is neither
+-- Refusals 2 and 3, in the table's order, each judged over the whole reading; `finite x` of the library says that x is neither
 -- infinite nor a NaN.
 abbrev pub judged : Bool → Bool → Converted → Converted
 judged allFinite allInRange converted = cond allFinite (cond allInRange converted (Refused OutOfRange)) (Refused NotFinite)

@@ -58,6 +58,7 @@ pub data ReadingCondition (r : Reading) : Refusal → Type 0 where
   out-of-range : allFinite r ≡ true → allInRange r ≡ false → ReadingCondition r OutOfRange
   too-dark : allFinite r ≡ true → allInRange r ≡ true → isDark r ≡ true → ReadingCondition r TooDark
 
+-- under its condition a refusal is given
 pub reading-condition-refused : (r : Reading) (s : Refusal) → ReadingCondition r s → convertReading r ≡ Refused s
 reading-condition-refused r s (not-finite f) = in-order r ∙ rw f refl
 reading-condition-refused r s (out-of-range f i) = in-order r ∙ rw (f, i) refl
@@ -67,6 +68,7 @@ reading-condition-refused r s (too-dark f i d) = in-order r ∙ rw (f, i, d) ref
 pub clear-point : (r : Reading) → allFinite r ≡ true → allInRange r ≡ true → isDark r ≡ false → convertReading r ≡ byKind r
 clear-point r f i d = in-order r ∙ rw (f, i, d) refl
 
+-- u and v, and no refusal
 abbrev pub IsPoint : Converted → Type 0
 IsPoint c = (u : ℕ) × (v : ℕ) × (c ≡ Point u v)
 
@@ -93,7 +95,7 @@ reading-refused-condition r s e = go (allFinite r) (allInRange r) (isDark r) ref
     go true true true a b c = given (too-dark a b c)
     go true true false a b c = never (is-point r .2) (sym (clear-point r a b c) ∙ e)
 
--- the only condition of two whole numbers: one of them is over the limit
+-- the conditions of two whole numbers: u or v is over the limit
 pub data WholeCondition (u v : ℕ) : Refusal → Type 0 where
   u-over : wholeLimit < u → WholeCondition u v OutOfRange
   v-over : wholeLimit < v → WholeCondition u v OutOfRange

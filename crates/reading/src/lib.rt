@@ -69,7 +69,7 @@ fn is_in_range(x: f32, quantity: Quantity) -> bool
     !(x < 0.0) & (x < quantity.bound as f32)
 }
 
-// x times n, exactly: they have at most 24 and 29 binary digits, and an f64 holds 53.
+// x times n, exactly: x has at most 24 binary digits and n is at most 2^29, so that the product has no more than an f64's 53.
 fn exact_product(x: f32, n: u32) -> f64
     requires { ⌜ finite x ≡ true ⌝ }
     requires { ⌜ n ≤ 2 ^ 29 ⌝ }
@@ -152,7 +152,7 @@ fn tristimulus(x: f32, y: f32, z: f32) -> Converted
     of_xyz(to_whole(x, TRISTIMULUS), whole_y, to_whole(z, TRISTIMULUS))
 }
 
-// The u and v that a reading comes to.
+// What a reading comes to.
 pub fn convert(reading: Reading) -> Converted
     ensures { λ r. ⌜ r ≡ convertReading reading ⌝ }
 {
@@ -170,7 +170,7 @@ pub fn convert(reading: Reading) -> Converted
     }
 }
 
-// u and v in micro, as whole numbers.
+// What u and v in micro come to: the point itself, unless one is over the limit.
 pub fn convert_whole(u: u32, v: u32) -> Converted
     ensures { λ r. ⌜ r ≡ convertWhole u v ⌝ }
 {

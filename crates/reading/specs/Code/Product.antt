@@ -1,4 +1,4 @@
--- The exact product of a float and a whole number, for the contract of a private function.
+-- The exact product of a float and a whole number, for the contract of `exact_product`.
 use Prim.Native.Nat.{ℕ, _*_}
 use lib.Ieee.{Float, nan, inf, fin, up, down}
 use lib.Ieee.Exact.{HasValue}
