@@ -50,7 +50,9 @@ unfolding convertReading ofTristimulus
 reading-within (Uv u v) = coordinates-up-to wholeLimit ofUv (λ a b ha hb. (omega arith, omega arith)) u v
 reading-within (UvPrime u v) = coordinates-up-to wholeLimit ofUvPrime (λ a b ha hb. (omega arith, omega arith)) u v
 reading-within (Xy x y) = coordinates-up-to wholeLimit ofXy (λ a b ha hb. over-within a b (3 * micro + 12 * b - 2 * a) (omega arith) (omega arith)) x y
-reading-within (Xyz x y z) = judged-up-to wholeLimit (finite x && finite y && finite z) (inRange tristimulus x && inRange tristimulus y && inRange tristimulus z) _ (λ _. cond-both Within (ltb (toWhole tristimulus y) leastY) tt (xyz-within (toWhole tristimulus x) (toWhole tristimulus y) (toWhole tristimulus z)))
+reading-within (Xyz x y z) =
+    judged-up-to wholeLimit (finite x && finite y && finite z) (inRange tristimulus x && inRange tristimulus y && inRange tristimulus z) _
+    (λ _. cond-both Within (ltb (toWhole tristimulus y) leastY) tt (xyz-within (toWhole tristimulus x) (toWhole tristimulus y) (toWhole tristimulus z)))
 
 pub whole-within : (u v : ℕ) → Within (convertWhole u v)
 whole-within u v = go (leb u wholeLimit && leb v wholeLimit) refl
