@@ -3,6 +3,4 @@ pub mod FloatAnswers
 pub mod RefusalLaws
 pub mod Refinement
 pub mod RefinementProof
-pub mod ProgramEdges
-pub mod WorkedCases
 pub mod Code

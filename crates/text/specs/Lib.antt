@@ -6,6 +6,7 @@ pub mod DecimalLaws
 pub mod Print
 pub mod PrintLaws
 pub mod WroteLaws
+pub mod WorkedCases
 pub mod Stream
 pub mod BlockLaws
 pub mod StreamLaws

@@ -1,18 +1,28 @@
 -- Document 01, "The text program": what a line of the input says.
 use Prim.Native.Nat.{ℕ, _+_, _*_, _-_}
 use mathlib.Core.List.{List, [], _∷_, map}
-use mathlib.Core.Bool.{Bool, true, cond, _&&_}
+use mathlib.Core.Bool.{Bool, cond, _&&_}
 use lib.ListN.{length}
 use lib.Dec.{leb, eqb}
+use Rattle.arith.specs.Every.{every}
 use Rattle.text.specs.declared.grammar.Line.{Line}
 use Rattle.text.specs.declared.grammar.Line.the-variants.{Unreadable, Numbers}
 
--- the bytes that part words and lines
+-- bytes of ASCII: those that part words and lines, the first and the last digit, and the minus sign
 abbrev pub space : ℕ
 space = 32
 
 abbrev pub newline : ℕ
 newline = 10
+
+abbrev pub digitZero : ℕ
+digitZero = 48
+
+abbrev pub digitNine : ℕ
+digitNine = 57
+
+abbrev pub minusSign : ℕ
+minusSign = 45
 
 -- a byte put in front of the first of some pieces
 abbrev pub front : ℕ → List (List ℕ) → List (List ℕ)
@@ -29,14 +39,9 @@ split separator end (x ∷ l) =
 abbrev pub words : List ℕ → List (List ℕ)
 words l = split space ([] ∷ []) l
 
--- whether each of a list passes a test
-abbrev pub every : {A : Type 0} → (A → Bool) → List A → Bool
-every test [] = true
-every test (x ∷ l) = test x && every test l
-
--- a decimal digit in ASCII
+-- a decimal digit
 abbrev pub isDigit : ℕ → Bool
-isDigit x = leb 48 x && leb x 57
+isDigit x = leb digitZero x && leb x digitNine
 
 -- a number has 1 to 7 decimal digits
 abbrev pub isNumber : List ℕ → Bool
@@ -45,7 +50,7 @@ isNumber w = every isDigit w && (leb 1 (length w) && leb (length w) 7)
 -- the number that digits write, after those that wrote n
 abbrev pub valueFrom : ℕ → List ℕ → ℕ
 valueFrom n [] = n
-valueFrom n (x ∷ w) = valueFrom (10 * n + (x - 48)) w
+valueFrom n (x ∷ w) = valueFrom (10 * n + (x - digitZero)) w
 
 abbrev pub value : List ℕ → ℕ
 value w = valueFrom 0 w

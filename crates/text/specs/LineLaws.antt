@@ -7,9 +7,10 @@ use native.Mathlib.Omega.{arith}
 use lib.ListN.{length}
 use lib.Dec.{leb, eqb}
 use borrow.Author.Tests.{le-leb, leb-true, leb-false}
+use Rattle.arith.specs.Every.{every}
 use Rattle.arith.specs.TestLaws.{and-both}
 use Rattle.text.specs.declared.grammar.Line.the-variants.{Unreadable}
-use Rattle.text.specs.Line.{space, front, words, every, isDigit, isNumber, value, defaultSteps, numbersOf, wordsLine, lineOf}
+use Rattle.text.specs.Line.{space, front, words, isDigit, isNumber, value, defaultSteps, numbersOf, wordsLine, lineOf}
 
 -- two numbers say what they say with the default as a third
 pub two-numbers : (u v : ℕ) → numbersOf (u ∷ v ∷ []) ≡ numbersOf (u ∷ v ∷ defaultSteps ∷ [])

@@ -6,12 +6,12 @@ use lib.Dec.{eqb}
 use Rattle.refusal.specs.Number.{numberOf}
 use Rattle.refusal.specs.declared.Refusal.the-variants.{BadLine}
 use Rattle.reading.specs.Convert.{convertWhole}
+use Rattle.classes.specs.Classes.{noClass}
 use Rattle.cct.specs.declared.Answer.{Answer}
 use Rattle.cct.specs.Answers.{answer}
-use Rattle.cct.specs.ProgramEdges.{programEdges}
 use Rattle.text.specs.declared.grammar.Line.{Line}
 use Rattle.text.specs.declared.grammar.Line.the-variants.{Unreadable, Numbers}
-use Rattle.text.specs.Line.{space, newline, lineOf}
+use Rattle.text.specs.Line.{space, newline, minusSign, lineOf}
 use Rattle.text.specs.Decimal.{decimal, signed}
 
 -- words with one space between
@@ -20,9 +20,9 @@ spaced [] = []
 spaced (w ∷ []) = w
 spaced (w ∷ v ∷ ws) = w ++ (space ∷ spaced (v ∷ ws))
 
--- the class, or `-` for none, which an answer holds as 255
+-- the class, or `-` for none
 abbrev pub classText : ℕ → List ℕ
-classText c = cond (eqb c 255) (45 ∷ []) (decimal c)
+classText c = cond (eqb c noClass) (minusSign ∷ []) (decimal c)
 
 -- `0 place o p duv steps class`
 abbrev pub acceptedText : Answer → List ℕ
@@ -32,6 +32,10 @@ acceptedText a =
 -- that, or the refusal number alone
 abbrev pub answerText : Answer → List ℕ
 answerText a = cond (eqb (a .refusal) 0) (acceptedText a) (decimal (a .refusal))
+
+-- the program's class edges
+abbrev pub programEdges : List ℕ
+programEdges = 1600 ∷ 2500 ∷ 3500 ∷ 5000 ∷ 20001 ∷ []
 
 -- the answer to what a line says: refusal 8 comes before all others
 unfoldable pub replyTo : Line → List ℕ

@@ -10,15 +10,15 @@ use Rattle.arith.specs.TestLaws.{cond-both}
 use Rattle.refusal.specs.Number.{numberOf}
 use Rattle.refusal.specs.declared.Refusal.the-variants.{BadLine}
 use Rattle.reading.specs.Convert.{convertWhole}
+use Rattle.classes.specs.Classes.{noClass}
 use Rattle.cct.specs.declared.Answer.{Answer}
 use Rattle.cct.specs.Answers.{answer}
 use Rattle.text.specs.declared.grammar.Line.{Line}
 use Rattle.text.specs.declared.grammar.Line.the-variants.{Unreadable, Numbers}
-use Rattle.text.specs.Line.{space}
+use Rattle.text.specs.Line.{space, digitZero}
 use Rattle.text.specs.Decimal.{decimal, signed}
 use Rattle.text.specs.DecimalLaws.{digits-short, signed-short}
-use Rattle.cct.specs.ProgramEdges.{programEdges}
-use Rattle.text.specs.Print.{classText, acceptedText, answerText, replyTo}
+use Rattle.text.specs.Print.{programEdges, classText, acceptedText, answerText, replyTo}
 
 -- a space and a number
 abbrev pub fieldText : ℕ → List ℕ
@@ -26,7 +26,7 @@ fieldText n = space ∷ decimal n
 
 -- the first half of an accepted answer, and the second
 abbrev pub placesText : ℕ → ℕ → ℕ → List ℕ
-placesText place low high = 48 ∷ (fieldText place ++ (fieldText low ++ fieldText high))
+placesText place low high = digitZero ∷ (fieldText place ++ (fieldText low ++ fieldText high))
 
 abbrev pub restText : ℤ → ℕ → ℕ → List ℕ
 restText duv steps class = space ∷ (signed duv ++ (fieldText steps ++ (space ∷ classText class)))
@@ -39,7 +39,7 @@ pub field-short : (n : ℕ) → length (fieldText n) ≤ 11
 field-short n = omega (arith, digits-short 10 n)
 
 pub class-short : (c : ℕ) → length (classText c) ≤ 10
-class-short c = cond-both (λ (t : List ℕ). length t ≤ 10) (eqb c 255) (omega arith) (digits-short 10 c)
+class-short c = cond-both (λ (t : List ℕ). length t ≤ 10) (eqb c noClass) (omega arith) (digits-short 10 c)
 
 pub places-short : (place low high : ℕ) → length (placesText place low high) ≤ 34
 places-short p l h =

@@ -10,11 +10,12 @@ use lib.ListN.{length, length-append, take, getD}
 use lib.Seq.{take-suc}
 use lib.Dec.{leb, ltb, eqb}
 use borrow.Author.Tests.{le-ltb, le-leb, lt-leb, ne-eqb, ltb-true, ltb-false, leb-true, eqb-true, eqb-false}
+use Rattle.arith.specs.Every.{every}
 use Rattle.arith.specs.TestLaws.{and-both, both-and, first-fails, second-fails}
 use Rattle.text.specs.declared.grammar.Line.{Line}
 use Rattle.text.specs.declared.grammar.Line.the-variants.{Unreadable}
 use Rattle.text.specs.declared.grammar.Scan.{Scan}
-use Rattle.text.specs.Line.{front, words, every, isDigit, isNumber, valueFrom, value, numbersOf, wordsLine, lineOf}
+use Rattle.text.specs.Line.{space, digitZero, digitNine, front, words, isDigit, isNumber, valueFrom, value, numbersOf, wordsLine, lineOf}
 use Rattle.text.specs.LineLaws.{glue, glue-piece, glue-snoc, some-words, length-implied}
 use Rattle.text.specs.Code.Scan.{emptyScan, badScan, scanSpace, scanByte, scanLine, scanned}
 
@@ -25,9 +26,6 @@ scan-snoc s (y ∷ l) x = scan-snoc (scanByte s y) l x
 
 pub take-one : (l : List ℕ) (i : ℕ) → i < length l → take (i + 1) l ≡ take i l ++ (getD l i 0 ∷ [])
 take-one l i h = ap (λ (n : ℕ). take n l) (add-one i) ∙ take-suc l i 0 h
-
-pub scan-take : (s : Scan) (l : List ℕ) (i : ℕ) → i < length l → scanned s (take (i + 1) l) ≡ scanByte (scanned s (take i l)) (getD l i 0)
-scan-take s l i h = ap (scanned s) (take-one l i h) ∙ scan-snoc s (take i l) (getD l i 0)
 
 -- a scan, by its numbers
 abbrev mk : ℕ → ℕ → ℕ → ℕ → ℕ → Scan
@@ -46,14 +44,14 @@ bad-run [] = refl
 bad-run (x ∷ l) = ap (λ (s : Scan). scanLine (scanned s l)) (bad-byte x) ∙ bad-run l
 
 -- digits
-digit-of : (x : ℕ) → ltb x 48 ≡ false → ltb 57 x ≡ false → isDigit x ≡ true
-digit-of x p q = simp (le-leb 48 x (ltb-false x 48 p), le-leb x 57 (ltb-false 57 x q))
+digit-of : (x : ℕ) → ltb x digitZero ≡ false → ltb digitNine x ≡ false → isDigit x ≡ true
+digit-of x p q = simp (le-leb digitZero x (ltb-false x digitZero p), le-leb x digitNine (ltb-false digitNine x q))
 
-low : (x : ℕ) → ltb x 48 ≡ true → isDigit x ≡ false
-low x p = simp (lt-leb 48 x (ltb-true x 48 p))
+low : (x : ℕ) → ltb x digitZero ≡ true → isDigit x ≡ false
+low x p = simp (lt-leb digitZero x (ltb-true x digitZero p))
 
-high : (x : ℕ) → ltb 57 x ≡ true → isDigit x ≡ false
-high x p = simp (lt-leb x 57 (ltb-true 57 x p), and-false)
+high : (x : ℕ) → ltb digitNine x ≡ true → isDigit x ≡ false
+high x p = simp (lt-leb x digitNine (ltb-true digitNine x p), and-false)
 
 digits-snoc : (w : List ℕ) (x : ℕ) → every isDigit w ≡ true → isDigit x ≡ true → every isDigit (w ++ (x ∷ [])) ≡ true
 digits-snoc [] x p q = both-and q refl
@@ -73,9 +71,9 @@ number-long w l x h =
     let k : 7 < length (w ++ (x ∷ l)) = omega (arith, length-append w (x ∷ l)) in
     simp (lt-leb (length (w ++ (x ∷ l))) 7 k, and-false)
 
-pub value-snoc : (n : ℕ) (w : List ℕ) (x : ℕ) → valueFrom n (w ++ (x ∷ [])) ≡ 10 * valueFrom n w + (x - 48)
+pub value-snoc : (n : ℕ) (w : List ℕ) (x : ℕ) → valueFrom n (w ++ (x ∷ [])) ≡ 10 * valueFrom n w + (x - digitZero)
 value-snoc n [] x = refl
-value-snoc n (y ∷ w) x = value-snoc (10 * n + (y - 48)) w x
+value-snoc n (y ∷ w) x = value-snoc (10 * n + (y - digitZero)) w x
 
 -- a word so far: digits, at most 7
 record Good (w : List ℕ) : Type 0 where
@@ -88,8 +86,8 @@ good-nil = record { digits = refl; short = omega arith; small = omega arith }
 
 good-snoc : (w : List ℕ) (x : ℕ) → Good w → isDigit x ≡ true → length w ≤ 6 → Good (w ++ (x ∷ []))
 good-snoc w x g q h =
-    let d = and-both (leb 48 x) (leb x 57) q in
-    let hi : x ≤ 57 = leb-true x 57 (d .1) in
+    let d = and-both (leb digitZero x) (leb x digitNine) q in
+    let hi : x ≤ digitNine = leb-true x digitNine (d .1) in
     let v = value-snoc 0 w x in
     let n : length (w ++ (x ∷ [])) ≡ suc (length w) = length-append w (x ∷ []) ∙ add-one (length w) in
     let e : 10 ^ length (w ++ (x ∷ [])) ≡ 10 ^ length w * 10 = ap (λ (k : ℕ). 10 ^ k) n ∙ pow-suc 10 (length w) in
@@ -145,36 +143,36 @@ module _ {a b f : ℕ} {K : List (List ℕ) → Line} (F : Field a b f K) where
       ap (λ (s : Scan). scanLine (scanned s l)) e ∙ bad-run l
       ∙ sym (ap K (glue-front w x (words l)) ∙ F .at-stop (w ++ (x ∷ headOf (words l))) (restOf (words l)) (n (headOf (words l))))
 
-  on-room : (w l : List ℕ) (x : ℕ) → Runs l → Good w → eqb x 32 ≡ false → ltb x 48 ≡ false → ltb 57 x ≡ false → (t : Bool) → ltb 6 (length w) ≡ t → Byte w x l
+  on-room : (w l : List ℕ) (x : ℕ) → Runs l → Good w → eqb x space ≡ false → ltb x digitZero ≡ false → ltb digitNine x ≡ false → (t : Bool) → ltb 6 (length w) ≡ t → Byte w x l
   on-room w l x ih g h lo hi true k =
       let e : scanByte (at w) x ≡ badScan = simp (h, lo, hi, le-ltb 2 f (F .last), k) in
       to-bad w l x e (λ p. number-long w p x (ltb-true 6 (length w) k))
   on-room w l x ih g h lo hi false k =
       let r : length w ≤ 6 = ltb-false 6 (length w) k in
-      let e : scanByte (at w) x ≡ mk a b (10 * value w + (x - 48)) f (length w + 1) = simp (h, lo, hi, le-ltb 2 f (F .last), k, le-ltb 999999 (value w) (six-small w g r)) in
+      let e : scanByte (at w) x ≡ mk a b (10 * value w + (x - digitZero)) f (length w + 1) = simp (h, lo, hi, le-ltb 2 f (F .last), k, le-ltb 999999 (value w) (six-small w g r)) in
       let v = sym (value-snoc 0 w x) in
       let n : length w + 1 ≡ length (w ++ (x ∷ [])) = sym (length-append w (x ∷ [])) in
       ap (λ (s : Scan). scanLine (scanned s l)) (e ∙ ap (λ (c : ℕ). mk a b c f (length w + 1)) v ∙ ap (λ (k : ℕ). mk a b (value (w ++ (x ∷ []))) f k) n)
       ∙ ih (w ++ (x ∷ [])) (good-snoc w x g (digit-of x lo hi) r) ∙ ap K (glue-snoc w x (words l))
 
-  on-high : (w l : List ℕ) (x : ℕ) → Runs l → Good w → eqb x 32 ≡ false → ltb x 48 ≡ false → (t : Bool) → ltb 57 x ≡ t → Byte w x l
+  on-high : (w l : List ℕ) (x : ℕ) → Runs l → Good w → eqb x space ≡ false → ltb x digitZero ≡ false → (t : Bool) → ltb digitNine x ≡ t → Byte w x l
   on-high w l x ih g h lo true hi = let e : scanByte (at w) x ≡ badScan = simp (h, lo, hi) in to-bad w l x e (λ p. number-other w p x (high x hi))
   on-high w l x ih g h lo false hi = on-room w l x ih g h lo hi (ltb 6 (length w)) refl
 
-  on-low : (w l : List ℕ) (x : ℕ) → Runs l → Good w → eqb x 32 ≡ false → (t : Bool) → ltb x 48 ≡ t → Byte w x l
+  on-low : (w l : List ℕ) (x : ℕ) → Runs l → Good w → eqb x space ≡ false → (t : Bool) → ltb x digitZero ≡ t → Byte w x l
   on-low w l x ih g h true lo = let e : scanByte (at w) x ≡ badScan = simp (h, lo) in to-bad w l x e (λ p. number-other w p x (low x lo))
-  on-low w l x ih g h false lo = on-high w l x ih g h lo (ltb 57 x) refl
+  on-low w l x ih g h false lo = on-high w l x ih g h lo (ltb digitNine x) refl
 
-  on-byte : (w l : List ℕ) (x : ℕ) → Runs l → Good w → (t : Bool) → eqb x 32 ≡ t
+  on-byte : (w l : List ℕ) (x : ℕ) → Runs l → Good w → (t : Bool) → eqb x space ≡ t
       → scanLine (scanned (at w) (x ∷ l)) ≡ K (glue w (cond t ([] ∷ words l) (front x (words l))))
   on-byte w l x ih g true h =
       let e : scanByte (at w) x ≡ scanSpace (at w) = simp h in
       ap (λ (s : Scan). scanLine (scanned s l)) e ∙ sym (F .at-space w l g) ∙ sym (ap K (glue-piece w (words l)))
-  on-byte w l x ih g false h = on-low w l x ih g h (ltb x 48) refl
+  on-byte w l x ih g false h = on-low w l x ih g h (ltb x digitZero) refl
 
   runs : (l : List ℕ) → Runs l
   runs [] w g = sym (F .at-end w g) ∙ sym (ap K (glue-piece w []))
-  runs (x ∷ l) w g = on-byte w l x (runs l) g (eqb x 32) refl
+  runs (x ∷ l) w g = on-byte w l x (runs l) g (eqb x space) refl
 
 -- words of which one is no number
 stop : (ws : List (List ℕ)) → every isNumber ws ≡ false → wordsLine ws ≡ Unreadable

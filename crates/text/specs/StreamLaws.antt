@@ -6,10 +6,11 @@ use mathlib.Core.Bool.{Bool, true, false, not, cond}
 use native.Mathlib.Omega.{arith}
 use lib.Dec.{ltb, eqb}
 use borrow.Author.Tests.{ne-eqb, not-true}
+use Rattle.arith.specs.Every.{every}
 use Rattle.arith.specs.TestLaws.{and-both, cond-both, first-fails, second-fails}
 use Rattle.text.specs.declared.grammar.Line.{Line}
 use Rattle.text.specs.declared.grammar.Scan.{Scan}
-use Rattle.text.specs.Line.{newline, front, every}
+use Rattle.text.specs.Line.{space, newline, digitZero, digitNine, front}
 use Rattle.text.specs.LineLaws.{glue, glue-piece, glue-snoc}
 use Rattle.text.specs.Code.Scan.{emptyScan, scanSpace, scanDigit, scanByte, isEmpty, scanLine, scanned}
 use Rattle.text.specs.ScanLaws.{scan-snoc, scan-line}
@@ -50,9 +51,9 @@ begun-digit s d =
 begun-byte : (s : Scan) (x : ℕ) → Begun (scanByte s x)
 unfolding Begun
 begun-byte s x =
-    cond-both Begun (eqb x 32) (begun-space s)
-    (cond-both Begun (ltb x 48) refl
-    (cond-both Begun (ltb 57 x) refl (begun-digit s (x - 48))))
+    cond-both Begun (eqb x space) (begun-space s)
+    (cond-both Begun (ltb x digitZero) refl
+    (cond-both Begun (ltb digitNine x) refl (begun-digit s (x - digitZero))))
 
 begun : (s : Scan) (x : ℕ) (w : List ℕ) → Begun (scanned s (x ∷ w))
 begun s x [] = begun-byte s x

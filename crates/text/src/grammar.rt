@@ -1,7 +1,6 @@
 // What a line of the input says, read a byte at a time.
 ghost use mathlib.Core.Path.{_≡_};
 ghost use Prim.Native.Nat.{_≤_};
-ghost use Rattle.text.specs.Line.{lineOf};
 ghost use Rattle.text.specs.Code.Scan.{emptyScan, badScan, scanSpace, scanDigit, scanByte, isEmpty, scanLine};
 
 // What a line says.
@@ -14,6 +13,15 @@ pub enum Line {
 
 // The most steps to take where a line has two numbers.
 const DEFAULT_STEPS: u32 = 14;
+
+// Bytes of ASCII.
+pub(crate) const NEWLINE: u8 = b'\n';
+
+pub(crate) const SPACE: u8 = b' ';
+
+pub(crate) const DIGIT_ZERO: u8 = b'0';
+
+const DIGIT_NINE: u8 = b'9';
 
 // A line as far as it has been read: the number being read, with how many digits are read, and the two before it.
 pub struct Scan {
@@ -98,16 +106,16 @@ impl Scan {
     pub(crate) fn byte(self, x: u8) -> Self
         ensures { λ r. ⌜ r ≡ scanByte self x ⌝ }
     {
-        if x == 32 {
+        if x == SPACE {
             return self.space();
         }
-        if x < 48 {
+        if x < DIGIT_ZERO {
             return Scan::bad();
         }
-        if 57 < x {
+        if DIGIT_NINE < x {
             return Scan::bad();
         }
-        self.digit(x - 48)
+        self.digit(x - DIGIT_ZERO)
     }
 
     // Whether no byte has been read.
@@ -136,18 +144,4 @@ impl Scan {
         }
         Line::Unreadable
     }
-}
-
-// What a whole line, without its newline, says.
-pub fn parse_line(bytes: &[u8]) -> Line
-    ensures { λ r. ⌜ r ≡ lineOf (now (bytes .entry)) ⌝ }
-{
-    let mut scan = Scan::new();
-    let mut i: usize = 0;
-    while i < bytes.len() {
-        let x = bytes[i];
-        scan = scan.byte(x);
-        i += 1;
-    }
-    scan.line()
 }

@@ -5,7 +5,7 @@ mod stream;
 
 pub use grammar::Line;
 pub use grammar::Scan;
-pub use grammar::parse_line;
 pub use stream::Done;
+pub use stream::LINE_ROOM;
 pub use stream::block;
 pub use stream::finish;

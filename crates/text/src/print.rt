@@ -1,5 +1,8 @@
 // The line that answers a line of the input, appended to a buffer.
+use crate::grammar::DIGIT_ZERO;
 use crate::grammar::Line;
+use crate::grammar::NEWLINE;
+use crate::grammar::SPACE;
 use cct::Answer;
 use refusal::Refusal;
 ghost use mathlib.Core.Path.{_≡_};
@@ -10,9 +13,13 @@ ghost use Rattle.reading.specs.Convert.{convertWhole};
 ghost use Rattle.cct.specs.Answers.{answer};
 ghost use Rattle.text.specs.Code.Wrote.{Wrote};
 ghost use Rattle.text.specs.Decimal.{digitsOf, decimal, signed};
-ghost use Rattle.cct.specs.ProgramEdges.{programEdges};
-ghost use Rattle.text.specs.Print.{classText, answerText, replyTo, replyLine};
+ghost use Rattle.text.specs.Print.{programEdges, classText, answerText, replyTo, replyLine};
 ghost use Rattle.text.specs.PrintLaws.{fieldText, placesText, restText};
+
+const MINUS_SIGN: u8 = b'-';
+
+// The class of an answer that names none.
+const NO_CLASS: u8 = 255;
 
 // One byte.
 fn put_byte(out: &mut [u8], at: usize, b: u8) -> usize
@@ -32,10 +39,10 @@ fn put_digits(n: u32, k: usize, out: &mut [u8], at: usize) -> usize
         return at;
     }
     if n < 10 {
-        return put_byte(out, at, (48 + n) as u8);
+        return put_byte(out, at, DIGIT_ZERO + n as u8);
     }
     let next = put_digits(n / 10, k - 1, out, at);
-    put_byte(out, next, (48 + n % 10) as u8)
+    put_byte(out, next, DIGIT_ZERO + (n % 10) as u8)
 }
 
 // n in decimal.
@@ -53,7 +60,7 @@ fn put_signed(z: i32, out: &mut [u8], at: usize) -> usize
 {
     let n = arith::magnitude(z);
     if z < 0 {
-        let next = put_byte(out, at, 45);
+        let next = put_byte(out, at, MINUS_SIGN);
         return put_number(n, out, next);
     }
     put_number(n, out, at)
@@ -64,7 +71,7 @@ fn put_field(n: u32, out: &mut [u8], at: usize) -> usize
     requires { ⌜ at + 11 ≤ length (now out) ⌝ }
     ensures { λ r. ⌜ Wrote at (now (out .entry)) (now (out .exit)) r (fieldText n) ⌝ }
 {
-    let next = put_byte(out, at, 32);
+    let next = put_byte(out, at, SPACE);
     put_number(n, out, next)
 }
 
@@ -73,8 +80,8 @@ fn put_class(class: u8, out: &mut [u8], at: usize) -> usize
     requires { ⌜ at + 10 ≤ length (now out) ⌝ }
     ensures { λ r. ⌜ Wrote at (now (out .entry)) (now (out .exit)) r (classText class) ⌝ }
 {
-    if class == 255 {
-        return put_byte(out, at, 45);
+    if class == NO_CLASS {
+        return put_byte(out, at, MINUS_SIGN);
     }
     put_number(class as u32, out, at)
 }
@@ -84,7 +91,7 @@ fn put_places(place: u32, low: u32, high: u32, out: &mut [u8], at: usize) -> usi
     requires { ⌜ at + 34 ≤ length (now out) ⌝ }
     ensures { λ r. ⌜ Wrote at (now (out .entry)) (now (out .exit)) r (placesText place low high) ⌝ }
 {
-    let a = put_byte(out, at, 48);
+    let a = put_byte(out, at, DIGIT_ZERO);
     let b = put_field(place, out, a);
     let c = put_field(low, out, b);
     put_field(high, out, c)
@@ -95,10 +102,10 @@ fn put_rest(duv: i32, steps: u8, class: u8, out: &mut [u8], at: usize) -> usize
     requires { ⌜ at + 34 ≤ length (now out) ⌝ }
     ensures { λ r. ⌜ Wrote at (now (out .entry)) (now (out .exit)) r (restText duv steps class) ⌝ }
 {
-    let a = put_byte(out, at, 32);
+    let a = put_byte(out, at, SPACE);
     let b = put_signed(duv, out, a);
     let c = put_field(steps as u32, out, b);
-    let d = put_byte(out, c, 32);
+    let d = put_byte(out, c, SPACE);
     put_class(class, out, d)
 }
 
@@ -146,5 +153,5 @@ pub(crate) fn put_line(line: Line, out: &mut [u8], at: usize) -> usize
     ensures { λ r. ⌜ Wrote at (now (out .entry)) (now (out .exit)) r (replyLine line) ⌝ }
 {
     let next = put_reply(line, out, at);
-    put_byte(out, next, 10)
+    put_byte(out, next, NEWLINE)
 }

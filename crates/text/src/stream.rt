@@ -1,13 +1,15 @@
 // Blocks of input turned into blocks of output.
+use crate::grammar::NEWLINE;
 use crate::grammar::Scan;
 use crate::print;
+ghost use mathlib.Core.Path.{_≡_};
 ghost use lib.ListN.{length};
 ghost use Prim.Native.Nat.{_+_, _≤_};
 ghost use Rattle.text.specs.Code.Wrote.{Wrote};
 ghost use Rattle.text.specs.Code.Block.{closes, lineRoom, Taken, Blocked};
 
 // Room for any answer with its newline.
-const LINE_ROOM: usize = 80;
+pub const LINE_ROOM: usize = 80;
 
 struct Next {
     scan: Scan,
@@ -19,7 +21,7 @@ fn take_byte(scan: Scan, x: u8, out: &mut [u8], at: usize) -> Next
     requires { ⌜ at + lineRoom ≤ length (now out) ⌝ }
     ensures { λ r. ⌜ Taken scan x at (now (out .entry)) (now (out .exit)) r ⌝ }
 {
-    if x == 10 {
+    if x == NEWLINE {
         let line = scan.line();
         let end = print::put_line(line, out, at);
         let empty = Scan::new();
@@ -44,7 +46,8 @@ pub struct Done {
 
 // A block of the input, as far as there is room for its output.
 pub fn block(scan: Scan, input: &[u8], out: &mut [u8]) -> Done
-    ensures { λ r. ⌜ Blocked scan (now (input .entry)) (now (out .entry)) (now (out .exit)) r ⌝ }
+    ensures output { λ r. ⌜ Blocked scan (now (input .entry)) (now (out .entry)) (now (out .exit)) r ⌝ }
+    ensures unchanged { λ r. ⌜ now (input .exit) ≡ now (input .entry) ⌝ }
 {
     let mut s = scan;
     let mut i: usize = 0;
@@ -71,7 +74,7 @@ pub fn block(scan: Scan, input: &[u8], out: &mut [u8]) -> Done
 }
 
 // The end of the input: a last line without its newline is answered too.
-pub fn finish(scan: Scan, out: &mut [u8; 80]) -> usize
+pub fn finish(scan: Scan, out: &mut [u8; LINE_ROOM]) -> usize
     ensures { λ r. ⌜ Wrote 0 (now (out .entry)) (now (out .exit)) r (closes scan) ⌝ }
 {
     if scan.is_empty() {

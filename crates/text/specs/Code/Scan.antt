@@ -6,7 +6,7 @@ use lib.Dec.{ltb, eqb}
 use Rattle.text.specs.declared.grammar.Line.{Line}
 use Rattle.text.specs.declared.grammar.Line.the-variants.{Unreadable, Numbers}
 use Rattle.text.specs.declared.grammar.Scan.{Scan}
-use Rattle.text.specs.Line.{space, defaultSteps}
+use Rattle.text.specs.Line.{space, digitZero, digitNine, defaultSteps}
 
 -- before the first byte
 abbrev pub emptyScan : Scan
@@ -34,9 +34,9 @@ scanDigit s d =
 abbrev pub scanByte : Scan → ℕ → Scan
 scanByte s x =
     cond (eqb x space) (scanSpace s)
-    (cond (ltb x 48) badScan
-    (cond (ltb 57 x) badScan
-    (scanDigit s (x - 48))))
+    (cond (ltb x digitZero) badScan
+    (cond (ltb digitNine x) badScan
+    (scanDigit s (x - digitZero))))
 
 -- after the bytes of a list
 abbrev pub scanned : Scan → List ℕ → Scan

@@ -2,11 +2,10 @@
 use Prim.Native.Nat.{ℕ, _+_, _≤_}
 use mathlib.Core.Path.{_≡_}
 use mathlib.Core.List.{List, _++_}
-use lib.ListN.{length, take}
+use lib.ListN.{length, take, drop}
 
--- the buffer `old` became `new`: up to `at` it is as it was, and from there it holds the text, which ends at `end`
+-- the buffer `old` became `new`: it holds the text from `at` up to `end`, and every other byte is as it was
 pub record Wrote (at : ℕ) (old new : List ℕ) (end : ℕ) (text : List ℕ) : Type 0 where
   pub ends : end ≡ at + length text
-  pub long : length new ≡ length old
-  pub fits : end ≤ length new
-  pub holds : take end new ≡ take at old ++ text
+  pub fits : end ≤ length old
+  pub holds : new ≡ take at old ++ text ++ drop end old

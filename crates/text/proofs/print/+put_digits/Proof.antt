@@ -1,7 +1,7 @@
 -- A recursion on the number of digits: each of the three returns is one of the laws of `digitsOf`.
 use Prim.Native.Nat.{ℕ, _<_, _-_, _/_}
 use native.Mathlib.Omega.{arith}
-use Rattle.text.specs.WroteLaws.{none, then, says, room}
+use Rattle.text.specs.WroteLaws.{wrote-nothing, wrote-then, wrote-as, wrote-room}
 use Rattle.text.specs.DecimalLaws.{no-digit, only-digit, last-digit, digits-short}
 use borrow.Author.Needs.{needs}
 use borrow.Fn.Kinds.{In}
@@ -32,15 +32,7 @@ returns : (t : ℕ) → put-digits-lts.Need-returns (
 ) (put-digits-at t) put-digits.Post
 returns t c =
     let a = c .before .before .args in
-    says (no-digit (a .k) (a .n) (c .if1 .taken)) (none (a .at) (a .out .now) (search needs))
-
-add-put-byte : (t : ℕ) → put-digits-lts.Need-add-put-byte (
-  put-byte-reads.Asked,
-  put-byte-reads.Learnt,
-  put-digits-below t,
-  put-digits.Post,
-) (put-digits-at t) put-digits.Post
-add-put-byte t c = search needs
+    wrote-as (no-digit (a .k) (a .n) (c .if1 .taken)) (wrote-nothing (a .at) (a .out .now) (search needs))
 
 cast-put-byte : (t : ℕ) → put-digits-lts.Need-cast-put-byte (
   put-byte-reads.Asked,
@@ -49,6 +41,14 @@ cast-put-byte : (t : ℕ) → put-digits-lts.Need-cast-put-byte (
   put-digits.Post,
 ) (put-digits-at t) put-digits.Post
 cast-put-byte t c = search needs
+
+add-put-byte : (t : ℕ) → put-digits-lts.Need-add-put-byte (
+  put-byte-reads.Asked,
+  put-byte-reads.Learnt,
+  put-digits-below t,
+  put-digits.Post,
+) (put-digits-at t) put-digits.Post
+add-put-byte t c = search needs
 
 put-byte-requires : (t : ℕ) → put-digits-lts.Need-put-byte-requires (
   put-byte-reads.Asked,
@@ -74,7 +74,7 @@ returns-2 : (t : ℕ) → put-digits-lts.Need-returns-2 (
 ) (put-digits-at t) put-digits.Post
 returns-2 t c =
     let a = c .before .before .before .before .before .before .before .args in
-    says (only-digit (a .k) (a .n) (c .before .before .before .before .before .if1 .left) (c .before .before .before .before .if2 .taken))
+    wrote-as (only-digit (a .k) (a .n) (c .before .before .before .before .before .if1 .left) (c .before .before .before .before .if2 .taken))
     (c .before .before .put-byte .ensures)
 
 sub-put-digits : (t : ℕ) → put-digits-lts.Need-sub-put-digits (
@@ -93,14 +93,6 @@ put-digits-requires : (t : ℕ) → put-digits-lts.Need-put-digits-requires (
 ) (put-digits-at t) put-digits.Post
 put-digits-requires t c κs = search needs
 
-add-put-byte-2 : (t : ℕ) → put-digits-lts.Need-add-put-byte-2 (
-  put-byte-reads.Asked,
-  put-byte-reads.Learnt,
-  put-digits-below t,
-  put-digits.Post,
-) (put-digits-at t) put-digits.Post
-add-put-byte-2 t c = search needs
-
 cast-put-byte-2 : (t : ℕ) → put-digits-lts.Need-cast-put-byte-2 (
   put-byte-reads.Asked,
   put-byte-reads.Learnt,
@@ -108,6 +100,14 @@ cast-put-byte-2 : (t : ℕ) → put-digits-lts.Need-cast-put-byte-2 (
   put-digits.Post,
 ) (put-digits-at t) put-digits.Post
 cast-put-byte-2 t c = search needs
+
+add-put-byte-2 : (t : ℕ) → put-digits-lts.Need-add-put-byte-2 (
+  put-byte-reads.Asked,
+  put-byte-reads.Learnt,
+  put-digits-below t,
+  put-digits.Post,
+) (put-digits-at t) put-digits.Post
+add-put-byte-2 t c = search needs
 
 put-byte-requires-2 : (t : ℕ) → put-digits-lts.Need-put-byte-requires-2 (
   put-byte-reads.Asked,
@@ -117,7 +117,7 @@ put-byte-requires-2 : (t : ℕ) → put-digits-lts.Need-put-byte-requires-2 (
 ) (put-digits-at t) put-digits.Post
 put-byte-requires-2 t c κs =
     let s = c .before .before .before .before .before .before .before .before in
-    room (s .args .k - 1) 1 (c .before .before .before .put-digits .ensures) (digits-short (s .args .k - 1) (s .args .n / 10))
+    wrote-room (s .args .k - 1) 1 (c .before .before .before .put-digits .ensures) (digits-short (s .args .k - 1) (s .args .n / 10))
     (omega (arith, s .pre, c .before .before .before .before .before .before .if1 .left))
 
 same-length-2 : (t : ℕ) → put-digits-lts.Need-same-length-2 (
@@ -136,8 +136,8 @@ returns-3 : (t : ℕ) → put-digits-lts.Need-returns-3 (
 ) (put-digits-at t) put-digits.Post
 returns-3 t c =
     let a = c .before .before .before .before .before .before .before .before .before .before .before .args in
-    says (last-digit (a .k) (a .n) (c .before .before .before .before .before .before .before .before .before .if1 .left) (c .before .before .before .before .before .before .before .before .if2 .left))
-    (then (c .before .before .before .before .before .before .put-digits .ensures) (c .before .before .put-byte2 .ensures))
+    wrote-as (last-digit (a .k) (a .n) (c .before .before .before .before .before .before .before .before .before .if1 .left) (c .before .before .before .before .before .before .before .before .if2 .left))
+    (wrote-then (c .before .before .before .before .before .before .put-digits .ensures) (c .before .before .put-byte2 .ensures))
 
 pub +put-digits-spec : {M : Type 1} → statement M
 +put-digits-spec = close μ-put-digits λ t. put-digits-lts.spec (
@@ -149,15 +149,15 @@ pub +put-digits-spec : {M : Type 1} → statement M
     (put-digits-at t)
     put-digits.Post
     (returns t)
-    (add-put-byte t)
     (cast-put-byte t)
+    (add-put-byte t)
     (put-byte-requires t)
     (same-length t)
     (returns-2 t)
     (sub-put-digits t)
     (put-digits-requires t)
-    (add-put-byte-2 t)
     (cast-put-byte-2 t)
+    (add-put-byte-2 t)
     (put-byte-requires-2 t)
     (same-length-2 t)
     (returns-3 t)

@@ -5,7 +5,7 @@ use lib.IntN.{ℤ}
 use mir.Syntax.{w32}
 use mir.Val.{SFits}
 use borrow.Author.Tests.{eq-eqb, ne-eqb}
-use Rattle.text.specs.WroteLaws.{then, room, says}
+use Rattle.text.specs.WroteLaws.{wrote-then, wrote-room, wrote-as}
 use Rattle.text.specs.PrintLaws.{placesText, restText, places-short, accepted-halves}
 use Rattle.text.proofs.Signed.{back}
 use borrow.Author.Needs.{needs}
@@ -16,7 +16,7 @@ put-places-requires : tie.Need-put-places-requires
 put-places-requires c κs = search needs
 
 put-rest-requires : tie.Need-put-rest-requires
-put-rest-requires c κs = room 34 34 (c .before .before .before .before .put-places .ensures) (places-short (c .before .before .before .before .before .before .before .before .args .answer .place) (c .before .before .before .before .before .before .before .before .args .answer .low) (c .before .before .before .before .before .before .before .before .args .answer .high)) (c .before .before .before .before .before .before .before .before .pre)
+put-rest-requires c κs = wrote-room 34 34 (c .before .before .before .before .put-places .ensures) (places-short (c .before .before .before .before .before .before .before .before .args .answer .place) (c .before .before .before .before .before .before .before .before .args .answer .low) (c .before .before .before .before .before .before .before .before .args .answer .high)) (c .before .before .before .before .before .before .before .before .pre)
 
 same-length : tie.Need-same-length
 same-length c = search needs
@@ -26,8 +26,8 @@ returns c =
     let a = c .before .before .before .before .before .before .before .before .before .before .before .args .answer in
     let w : SFits w32 (a .duv) = record { sfits = c .before .before .before .struct-told .given .1 .1 .1 .0 .1 } in
     simp (eq-eqb _ _ (c .before .before .before .before .before .before .before .before .before .if1 .taken))
-    (says (accepted-halves a ∙ ap (λ (z : ℤ). placesText (a .place) (a .low) (a .high) ++ restText z (a .steps) (a .class)) (sym (back w)))
-    (then (c .before .before .before .before .before .before .before .put-places .ensures) (c .before .before .put-rest .ensures)))
+    (wrote-as (accepted-halves a ∙ ap (λ (z : ℤ). placesText (a .place) (a .low) (a .high) ++ restText z (a .steps) (a .class)) (sym (back w)))
+    (wrote-then (c .before .before .before .before .before .before .before .put-places .ensures) (c .before .before .put-rest .ensures)))
 
 cast-put-number : tie.Need-cast-put-number
 cast-put-number c = search needs

@@ -1,5 +1,5 @@
 -- One store is one byte appended.
-use Rattle.text.specs.WroteLaws.{put}
+use Rattle.text.specs.WroteLaws.{wrote-byte}
 use borrow.Author.Needs.{needs}
 use Rattle.text.proofs.print.put_byte.Statement.{statement}
 use Rattle.text.proofs.print.put_byte.Tie as tie
@@ -14,7 +14,7 @@ same-length : tie.Need-same-length
 same-length c = search needs
 
 returns : tie.Need-returns
-returns c = put (c .args .at) (c .args .out .now) (c .args .b) (search needs)
+returns c = wrote-byte (c .args .at) (c .args .out .now) (c .args .b) (search needs)
 
 pub put-byte-spec : {M : Type 1} → statement M
 put-byte-spec = tie.close (tie.spec slice-write-out add-result same-length returns)

@@ -1,5 +1,5 @@
 -- Two appends in a row.
-use Rattle.text.specs.WroteLaws.{then}
+use Rattle.text.specs.WroteLaws.{wrote-then}
 use borrow.Author.Needs.{needs}
 use Rattle.text.proofs.print.put_field.Statement.{statement}
 use Rattle.text.proofs.print.put_field.Tie as tie
@@ -14,7 +14,7 @@ same-length : tie.Need-same-length
 same-length c = search needs
 
 returns : tie.Need-returns
-returns c = then (c .before .before .before .before .before .before .put-byte .ensures) (c .before .before .put-number .ensures)
+returns c = wrote-then (c .before .before .before .before .before .before .put-byte .ensures) (c .before .before .put-number .ensures)
 
 pub put-field-spec : {M : Type 1} → statement M
 put-field-spec = tie.close (tie.spec put-byte-requires put-number-requires same-length returns)

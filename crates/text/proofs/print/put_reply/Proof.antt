@@ -2,7 +2,7 @@
 use mathlib.Core.Path.{ap, sym, _∙_}
 use Rattle.text.specs.Decimal.{decimal}
 use Rattle.text.specs.Print.{answerText, replyTo}
-use Rattle.text.specs.WroteLaws.{says}
+use Rattle.text.specs.WroteLaws.{wrote-as}
 use borrow.Author.Needs.{needs}
 use Rattle.text.proofs.print.put_reply.Statement.{statement}
 use Rattle.text.proofs.print.put_reply.Tie as tie
@@ -34,7 +34,7 @@ same-length c = search needs
 returns : tie.Need-returns
 unfolding replyTo
 returns c =
-    says (ap replyTo (c .before .before .before .before .before .enum-told .given .1) ∙ sym (ap decimal (c .before .before .before .before .number .ensures)))
+    wrote-as (ap replyTo (c .before .before .before .before .before .enum-told .given .1) ∙ sym (ap decimal (c .before .before .before .before .number .ensures)))
     (c .before .before .put-number .ensures)
 
 same-length-2 : tie.Need-same-length-2
@@ -43,7 +43,7 @@ same-length-2 c = search needs
 returns-2 : tie.Need-returns-2
 unfolding replyTo
 returns-2 c =
-    says (ap replyTo (c .before .before .before .before .before .before .line .given .1) ∙ sym (ap answerText (c .before .before .before .before .answer-of .ensures)))
+    wrote-as (ap replyTo (c .before .before .before .before .before .before .line .given .1) ∙ sym (ap answerText (c .before .before .before .before .answer-of .ensures)))
     (c .before .before .put-answer .ensures)
 
 pub put-reply-spec : {M : Type 1} → statement M

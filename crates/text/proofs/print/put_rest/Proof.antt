@@ -4,7 +4,7 @@ use mathlib.Core.Path.{ap, sym}
 use lib.IntN.{ℤ}
 use mir.Syntax.{w32}
 use mir.Val.{toZ, ofZ}
-use Rattle.text.specs.WroteLaws.{then, room, says}
+use Rattle.text.specs.WroteLaws.{wrote-then, wrote-room, wrote-as}
 use Rattle.text.specs.DecimalLaws.{signed-short}
 use Rattle.text.specs.PrintLaws.{restText, field-short}
 use Rattle.text.proofs.Signed.{back}
@@ -20,21 +20,21 @@ put-signed-requires c κs = search needs
 
 put-field-requires : tie.Need-put-field-requires
 put-field-requires c κs =
-    omega (arith, room 11 22 (c .before .before .before .put-signed .ensures) (signed-short (toZ w32 (ofZ w32 (c .before .before .before .before .before .before .before .before .before .before .args .duv)))) (room 1 33 (c .before .before .before .before .before .before .before .put-byte .ensures) (omega arith) (c .before .before .before .before .before .before .before .before .before .before .pre)))
+    omega (arith, wrote-room 11 22 (c .before .before .before .put-signed .ensures) (signed-short (toZ w32 (ofZ w32 (c .before .before .before .before .before .before .before .before .before .before .args .duv)))) (wrote-room 1 33 (c .before .before .before .before .before .before .before .put-byte .ensures) (omega arith) (c .before .before .before .before .before .before .before .before .before .before .pre)))
 
 put-byte-requires-2 : tie.Need-put-byte-requires-2
 put-byte-requires-2 c κs =
     omega (
       arith,
-      room 11 11 (c .before .before .before .put-field .ensures) (field-short (c .before .before .before .before .before .before .before .before .before .before .before .before .before .before .args .steps))
-          (room 11 22 (c .before .before .before .before .before .before .before .put-signed .ensures) (signed-short (toZ w32 (ofZ w32 (c .before .before .before .before .before .before .before .before .before .before .before .before .before .before .args .duv)))) (room 1 33 (c .before .before .before .before .before .before .before .before .before .before .before .put-byte .ensures) (omega arith) (c .before .before .before .before .before .before .before .before .before .before .before .before .before .before .pre))),
+      wrote-room 11 11 (c .before .before .before .put-field .ensures) (field-short (c .before .before .before .before .before .before .before .before .before .before .before .before .before .before .args .steps))
+          (wrote-room 11 22 (c .before .before .before .before .before .before .before .put-signed .ensures) (signed-short (toZ w32 (ofZ w32 (c .before .before .before .before .before .before .before .before .before .before .before .before .before .before .args .duv)))) (wrote-room 1 33 (c .before .before .before .before .before .before .before .before .before .before .before .put-byte .ensures) (omega arith) (c .before .before .before .before .before .before .before .before .before .before .before .before .before .before .pre))),
     )
 
 put-class-requires : tie.Need-put-class-requires
 put-class-requires c κs =
-    room 1 10 (c .before .before .before .put-byte2 .ensures) (omega arith)
-    (room 11 11 (c .before .before .before .before .before .before .before .put-field .ensures) (field-short (c .before .before .before .before .before .before .before .before .before .before .before .before .before .before .before .before .before .before .args .steps))
-    (room 11 22 (c .before .before .before .before .before .before .before .before .before .before .before .put-signed .ensures) (signed-short (toZ w32 (ofZ w32 (c .before .before .before .before .before .before .before .before .before .before .before .before .before .before .before .before .before .before .args .duv)))) (room 1 33 (c .before .before .before .before .before .before .before .before .before .before .before .before .before .before .before .put-byte .ensures) (omega arith) (c .before .before .before .before .before .before .before .before .before .before .before .before .before .before .before .before .before .before .pre))))
+    wrote-room 1 10 (c .before .before .before .put-byte2 .ensures) (omega arith)
+    (wrote-room 11 11 (c .before .before .before .before .before .before .before .put-field .ensures) (field-short (c .before .before .before .before .before .before .before .before .before .before .before .before .before .before .before .before .before .before .args .steps))
+    (wrote-room 11 22 (c .before .before .before .before .before .before .before .before .before .before .before .put-signed .ensures) (signed-short (toZ w32 (ofZ w32 (c .before .before .before .before .before .before .before .before .before .before .before .before .before .before .before .before .before .before .args .duv)))) (wrote-room 1 33 (c .before .before .before .before .before .before .before .before .before .before .before .before .before .before .before .put-byte .ensures) (omega arith) (c .before .before .before .before .before .before .before .before .before .before .before .before .before .before .before .before .before .before .pre))))
 
 same-length : tie.Need-same-length
 same-length c = search needs
@@ -42,11 +42,11 @@ same-length c = search needs
 returns : tie.Need-returns
 returns c =
     let a = c .before .before .before .before .before .before .before .before .before .before .before .before .before .before .before .before .before .before .before .before .before .args in
-    says (ap (λ (z : ℤ). restText z (a .steps) (a .class)) (sym (back (c .before .before .before .before .before .before .before .before .before .before .before .before .before .before .before .before .before .before .before .before .before .fits .duv))))
-    (then (c .before .before .before .before .before .before .before .before .before .before .before .before .before .before .before .before .before .before .put-byte .ensures)
-    (then (c .before .before .before .before .before .before .before .before .before .before .before .before .before .before .put-signed .ensures)
-    (then (c .before .before .before .before .before .before .before .before .before .before .put-field .ensures)
-    (then (c .before .before .before .before .before .before .put-byte2 .ensures) (c .before .before .put-class .ensures)))))
+    wrote-as (ap (λ (z : ℤ). restText z (a .steps) (a .class)) (sym (back (c .before .before .before .before .before .before .before .before .before .before .before .before .before .before .before .before .before .before .before .before .before .fits .duv))))
+    (wrote-then (c .before .before .before .before .before .before .before .before .before .before .before .before .before .before .before .before .before .before .put-byte .ensures)
+    (wrote-then (c .before .before .before .before .before .before .before .before .before .before .before .before .before .before .put-signed .ensures)
+    (wrote-then (c .before .before .before .before .before .before .before .before .before .before .put-field .ensures)
+    (wrote-then (c .before .before .before .before .before .before .put-byte2 .ensures) (c .before .before .put-class .ensures)))))
 
 pub put-rest-spec : {M : Type 1} → statement M
 put-rest-spec = tie.close (tie.spec put-byte-requires put-signed-requires put-field-requires put-byte-requires-2 put-class-requires same-length returns)

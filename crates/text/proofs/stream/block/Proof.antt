@@ -7,7 +7,7 @@ use borrow.Author.Needs.{needs}
 use lib.ListN.{length, getD, take, drop}
 use Rattle.text.specs.declared.grammar.Scan.{Scan}
 use Rattle.text.specs.Code.Wrote.{Wrote}
-use Rattle.text.specs.WroteLaws.{none, then, says}
+use Rattle.text.specs.WroteLaws.{wrote-length, wrote-nothing, wrote-then, wrote-as}
 use Rattle.text.specs.Code.Block.{emitted, nextScan, emits, leaves, reads}
 use Rattle.text.specs.BlockLaws.{leaves-take, emits-take, reads-full, reads-end, reads-next}
 use Rattle.text.proofs.stream.block.Statement.{statement}
@@ -27,20 +27,20 @@ loop-holds : tie.Need-loop-holds Inv-loop μ-loop
 loop-holds c =
     let a = c .before .before .args in
     let room : length (a .out .now) - 0 ≡ length (a .out .now) = omega arith in
-    (search needs, refl, none 0 (a .out .now) (omega arith), omega (arith, ap (λ (n : ℕ). reads (a .scan) n (a .input .now)) room))
+    (search needs, refl, wrote-nothing 0 (a .out .now) (omega arith), omega (arith, ap (λ (n : ℕ). reads (a .scan) n (a .input .now)) room))
 
 sub-if1 : tie.Need-sub-if1 Inv-loop μ-loop
-sub-if1 c = omega (arith, c .before .loop .inv .2 .fits)
+sub-if1 c = omega (arith, c .before .loop .inv .2 .fits, wrote-length (c .before .loop .inv .2))
 
 same-length : tie.Need-same-length Inv-loop μ-loop
-same-length c = c .before .before .loop .inv .2 .long
+same-length c = wrote-length (c .before .before .loop .inv .2)
 
 returns : tie.Need-returns Inv-loop μ-loop
 returns c =
     let l = c .before .before .loop in
     let input = c .before .before .before .before .before .args .input .now in
     let full = reads-full (l .s) (length (l .out) - l .w) (drop (l .i) input) (omega arith) in
-    record { read = omega (arith, l .inv .3, full); scan = l .inv .1; wrote = l .inv .2 }
+    (record { read = omega (arith, l .inv .3, full); scan = l .inv .1; wrote = l .inv .2 }, refl)
 
 shared-slice-read-x : tie.Need-shared-slice-read-x Inv-loop μ-loop
 shared-slice-read-x c = search needs
@@ -65,26 +65,26 @@ loop-again c =
     let s = l .inv .1 in
     let room = length (l .out) - l .w in
     let q = c .before .before .before .take-byte in
-    let left : length (q .last .1 .1 .0) - q .result .written ≡ room - length (emitted (l .s) x) = omega (arith, e .wrote .ends, e .wrote .long) in
+    let left : length (q .last .1 .1 .0) - q .result .written ≡ room - length (emitted (l .s) x) = omega (arith, e .wrote .ends, wrote-length (e .wrote)) in
     let same =
     ap (λ (z : Scan). reads z (length (q .last .1 .1 .0) - q .result .written) (drop (l .i + 1) input)) (e .scan)
     ∙ ap (λ (n : ℕ). reads (nextScan (l .s) x) n (drop (l .i + 1) input)) left in
     let next = reads-next (l .s) room input (l .i) h (omega (arith, l .inv .2 .fits)) in (
       omega arith,
       e .scan ∙ ap (λ (z : Scan). nextScan z x) s ∙ sym (leaves-take s₀ input (l .i) h),
-      says (emits-take s₀ input (l .i) h ∙ ap (λ (z : Scan). emits s₀ (take (l .i) input) ++ emitted z x) (sym s)) (then (l .inv .2) (e .wrote)),
+      wrote-as (emits-take s₀ input (l .i) h ∙ ap (λ (z : Scan). emits s₀ (take (l .i) input) ++ emitted z x) (sym s)) (wrote-then (l .inv .2) (e .wrote)),
       omega (arith, l .inv .3, next, same),
     )
 
 same-length-2 : tie.Need-same-length-2 Inv-loop μ-loop
-same-length-2 c = c .before .loop .inv .2 .long
+same-length-2 c = wrote-length (c .before .loop .inv .2)
 
 returns-2 : tie.Need-returns-2 Inv-loop μ-loop
 returns-2 c =
     let l = c .before .loop in
     let input = c .before .before .before .before .args .input .now in
     let end = reads-end (l .s) (length (l .out) - l .w) input (l .i) (omega arith) in
-    record { read = omega (arith, l .inv .3, end); scan = l .inv .1; wrote = l .inv .2 }
+    (record { read = omega (arith, l .inv .3, end); scan = l .inv .1; wrote = l .inv .2 }, refl)
 
 pub block-spec : {M : Type 1} → statement M
 block-spec =

@@ -3,7 +3,7 @@ use mathlib.Core.Path.{sym, ap, _∙_}
 use native.Mathlib.Omega.{arith}
 use borrow.Author.Needs.{needs}
 use Rattle.text.specs.Print.{replyLine}
-use Rattle.text.specs.WroteLaws.{none, says}
+use Rattle.text.specs.WroteLaws.{wrote-nothing, wrote-as}
 use Rattle.text.specs.BlockLaws.{closes-empty, closes-line}
 use Rattle.text.proofs.stream.finish.Statement.{statement}
 use Rattle.text.proofs.stream.finish.Tie as tie
@@ -14,7 +14,7 @@ is-empty-requires c κs = search needs
 returns : tie.Need-returns
 returns c =
     let a = c .before .before .args in
-    says (closes-empty (a .scan) (sym (c .before .is-empty .ensures) ∙ c .if1 .taken)) (none 0 (a .out .now) (omega arith))
+    wrote-as (closes-empty (a .scan) (sym (c .before .is-empty .ensures) ∙ c .if1 .taken)) (wrote-nothing 0 (a .out .now) (omega arith))
 
 line-requires : tie.Need-line-requires
 line-requires c κs = search needs
@@ -25,7 +25,7 @@ put-line-requires c κs = search needs
 returns-2 : tie.Need-returns-2
 returns-2 c =
     let e = closes-line (c .before .before .before .before .before .args .scan) (sym (c .before .before .before .before .is-empty .ensures) ∙ c .before .before .before .if1 .left) in
-    says (e ∙ sym (ap replyLine (c .before .before .line .ensures))) (c .put-line .ensures)
+    wrote-as (e ∙ sym (ap replyLine (c .before .before .line .ensures))) (c .put-line .ensures)
 
 pub finish-spec : {M : Type 1} → statement M
 finish-spec =

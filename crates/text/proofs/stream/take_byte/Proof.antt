@@ -6,7 +6,7 @@ use lib.Dec.{eqb}
 use borrow.Author.Tests.{eq-eqb, ne-eqb}
 use borrow.Author.Needs.{needs}
 use Rattle.text.specs.Line.{newline}
-use Rattle.text.specs.WroteLaws.{none}
+use Rattle.text.specs.WroteLaws.{wrote-nothing}
 use Rattle.text.proofs.stream.take_byte.Statement.{statement}
 use Rattle.text.proofs.stream.take_byte.Tie as tie
 
@@ -38,7 +38,7 @@ returns-2 c =
     let e : eqb (c .before .before .before .args .x) newline ≡ false = ne-eqb _ _ (c .before .if1 .left) in
     record {
       scan = simp e (c .byte .ensures);
-      wrote = simp e (none _ _ (omega arith));
+      wrote = simp e (wrote-nothing _ _ (omega arith));
     }
 
 pub take-byte-spec : {M : Type 1} → statement M
