@@ -3,14 +3,15 @@ use text::Scan;
 ghost use Prim.Native.Nat.{_≤_};
 ghost use lib.ListN.{length};
 ghost use Rattle.text.specs.Code.Block.{lineRoom};
+ghost use Rattle.cradlekeel.specs.Code.Turns.{Carries, Reads};
 
 // What one read of the input came to.
 enum Turn {
     // All of its answers are written; the line so far is carried on.
     More(Scan),
-    // The input has ended, or cannot be read.
+    // The input has ended.
     Ended,
-    // The output cannot be written.
+    // The input cannot be read or the output cannot be written, as standard error says.
     Failed,
 }
 
@@ -26,6 +27,7 @@ fn write_output(part: &[u8]) -> bool {
 // Writes the answers to the lines that end in a block of input.
 fn answer_block(scan: Scan, input: &[u8], output: &mut [u8]) -> Turn
     requires { ⌜ lineRoom ≤ length (now output) ⌝ }
+    ensures { λ r. ⌜ Carries scan (now (input .entry)) r ⌝ }
 {
     let mut s = scan;
     let mut at: usize = 0;
@@ -41,12 +43,17 @@ fn answer_block(scan: Scan, input: &[u8], output: &mut [u8]) -> Turn
     Turn::More(s)
 }
 
-// Reads once, and answers what was read.
+// Reads once, and answers what was read; where it cannot read, it says so on standard error.
 fn read_block(scan: Scan, input: &mut [u8], output: &mut [u8]) -> Turn
     requires { ⌜ lineRoom ≤ length (now output) ⌝ }
+    ensures { λ r. ⌜ Reads scan (now (input .exit)) r ⌝ }
 {
     let got = libc::read(0, input);
-    if got <= 0 {
+    if got < 0 {
+        io::write_all(2, b"cradlekeel: cannot read standard input\n");
+        return Turn::Failed;
+    }
+    if got == 0 {
         return Turn::Ended;
     }
     let n = io::count(got, input);
@@ -73,7 +80,7 @@ fn main() {
         }
         turns -= 1;
     }
-    let mut last = [0u8; 80];
+    let mut last = [0u8; text::LINE_ROOM];
     let n = text::finish(scan, &mut last);
     write_output(&last[..n]);
 }

@@ -6,7 +6,7 @@ use mathlib.Core.Bool.{Bool, true, false, cond}
 use native.Mathlib.Omega.{arith}
 use native.Mathlib.Numerals.{add-one}
 use lib.ListN.{length, take, drop, getD, drop-of-length-le}
-use lib.Seq.{drop-cons}
+use lib.Seq.{drop-cons, take-add}
 use lib.Dec.{ltb}
 use borrow.Author.Tests.{le-ltb, lt-ltb}
 use Rattle.text.specs.declared.grammar.Scan.{Scan}
@@ -77,3 +77,12 @@ block-within {s} {input} {old} b = omega (arith, b .read, reads-within s (length
 
 pub block-some : {s : Scan} {input old new : List ℕ} {r : Done} → Blocked s input old new r → lineRoom ≤ length old → 0 < length input → 0 < r .read
 block-some {s} {input} {old} b room some = omega (arith, b .read, reads-some s (length old) input room some)
+
+-- a block that begins at a byte of the input carries the line on from there
+pub block-carries :
+    (s₀ : Scan) (input : List ℕ) (at : ℕ) {s : Scan} {part old new : List ℕ} {r : Done} → s ≡ leaves s₀ (take at input) → part ≡ drop at input
+    → Blocked s part old new r → r .scan ≡ leaves s₀ (take (at + r .read) input)
+block-carries s₀ input at {s} {part} {old} {new} {r} begun rest b =
+    let n = r .read in
+    b .scan ∙ ap (λ (l : List ℕ). leaves s (take n l)) rest ∙ ap (λ (z : Scan). leaves z (take n (drop at input))) begun
+    ∙ sym (leaves-append s₀ (take at input) (take n (drop at input))) ∙ ap (leaves s₀) (sym (take-add at n input))

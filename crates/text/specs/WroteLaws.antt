@@ -23,6 +23,9 @@ module _ {a b : ℕ} {o p xs : List ℕ} (w : Wrote a o p b xs) where
   wrote-length =
       ap length (w .holds) ∙ length-append (take a o ++ xs) (drop b o) ∙ omega (arith, written-length, length-drop b o, w .fits)
 
+  pub wrote-fits : b ≤ length p
+  wrote-fits = omega (arith, w .fits, wrote-length)
+
 -- two appends in a row
 pub wrote-then : {a b c : ℕ} {o p q : List ℕ} {xs ys : List ℕ} → Wrote a o p b xs → Wrote b p q c ys → Wrote a o q c (xs ++ ys)
 wrote-then {a} {b} {c} {o} {p} {q} {xs} {ys} f g =

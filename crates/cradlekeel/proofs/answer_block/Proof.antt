@@ -1,22 +1,26 @@
--- Each turn reads at least one byte, since the output has room for an answer; what is left of the input falls.
+-- The line so far is that after the bytes passed; each turn reads at least one byte, since the output has room for an answer.
 use Prim.Native.Nat.{_≤_, _-_}
-use mathlib.Core.Path.{_≡_, sym, _∙_}
+use mathlib.Core.Path.{_≡_, refl, ap, sym, _∙_}
+use mathlib.Core.Logic.{inl, inr}
 use native.Mathlib.Omega.{arith}
 use borrow.Author.Needs.{needs}
-use lib.ListN.{length, length-take, length-drop}
-use lib.Seq.{length-take-le}
-use Rattle.text.specs.BlockLaws.{block-within, block-some}
+use lib.ListN.{length, length-take, length-drop, take, drop}
+use lib.Seq.{length-take-le, take-all}
+use Rattle.text.specs.BlockLaws.{block-within, block-some, block-carries}
+use Rattle.text.specs.Code.Block.{leaves}
+use Rattle.text.specs.WroteLaws.{wrote-length, wrote-fits}
+use Rattle.cradlekeel.specs.declared.Turn.the-variants.{More}
 use Rattle.cradlekeel.proofs.answer_block.Statement.{statement}
 use Rattle.cradlekeel.proofs.answer_block.Tie as tie
 
 abbrev Inv-loop : tie.InvT-loop
-Inv-loop input output₀ s₀ at₀ output s at = (at ≤ length input) × (length output ≡ length output₀)
+Inv-loop input output₀ s₀ at₀ output s at = (at ≤ length input) × (length output ≡ length output₀) × (s ≡ leaves s₀ (take at input))
 
 abbrev μ-loop : tie.MeasureT-loop
 μ-loop input output₀ s₀ at₀ output s at = length input - at
 
 loop-holds : tie.Need-loop-holds Inv-loop μ-loop
-loop-holds c = search needs
+loop-holds c = (omega arith, refl, refl)
 
 sub-block : tie.Need-sub-block Inv-loop μ-loop
 sub-block c = search needs
@@ -36,7 +40,7 @@ slice-reshare-prefix-write-output c = search needs
 slice-aggregate-write-output : tie.Need-slice-aggregate-write-output Inv-loop μ-loop
 slice-aggregate-write-output c =
     let b = c .before .before .before .block in
-    sym (length-take-le (b .result .written) (b .last .1 .1 .0) (b .ensures .wrote .fits))
+    sym (length-take-le (b .result .written) (b .last .1 .1 .0) (wrote-fits (b .ensures .0 .wrote)))
 
 write-output-requires : tie.Need-write-output-requires Inv-loop μ-loop
 write-output-requires c κs = search needs
@@ -45,27 +49,37 @@ same-length : tie.Need-same-length Inv-loop μ-loop
 same-length c = search needs
 
 returns : tie.Need-returns Inv-loop μ-loop
-returns c = search needs
+returns c = inl refl
 
 add-at : tie.Need-add-at Inv-loop μ-loop
-add-at c = omega (arith, simp (length-take, length-drop) at (block-within (c .before .before .before .before .before .before .before .block .ensures)))
+add-at c = omega (arith, simp (length-take, length-drop) at (block-within (c .before .before .before .before .before .before .before .block .ensures .0)))
 
 loop-less : tie.Need-loop-less Inv-loop μ-loop
 loop-less c =
-    let b = c .before .before .before .before .before .before .before .block .ensures in
+    let b = c .before .before .before .before .before .before .before .block .ensures .0 in
     let some = block-some b (omega (arith, c .before .before .before .before .before .before .before .before .before .before .before .before .before .before .pre, c .before .before .before .before .before .before .before .before .before .before .before .loop .inv .1)) (simp (length-take, length-drop) (omega arith)) in
     omega (arith, some, simp (length-take, length-drop) at (block-within b))
 
 loop-again : tie.Need-loop-again Inv-loop μ-loop
 loop-again c =
-    let b = c .before .before .before .before .before .before .before .block in
-    (omega (arith, simp (length-take, length-drop) at (block-within (b .ensures))), b .ensures .wrote .long ∙ c .before .before .before .before .before .before .before .before .before .before .before .loop .inv .1)
+    let b = c .before .before .before .before .before .before .before .block .ensures .0 in
+    let a = c .before .before .before .before .before .before .before .before .before .before .before .before .before .before .args in
+    let l = c .before .before .before .before .before .before .before .before .before .before .before .loop in
+    let input = a .input .now in
+    let rest : take (length input - l .at) (drop (l .at) input) ≡ drop (l .at) input = take-all (length input - l .at) (drop (l .at) input) (omega (arith, length-drop (l .at) input)) in (
+      omega (arith, simp (length-take, length-drop) at (block-within b)),
+      wrote-length (b .wrote) ∙ l .inv .1,
+      block-carries (a .scan) input (l .at) (l .inv .2) rest b,
+    )
 
 same-length-2 : tie.Need-same-length-2 Inv-loop μ-loop
 same-length-2 c = search needs
 
 returns-2 : tie.Need-returns-2 Inv-loop μ-loop
-returns-2 c = search needs
+returns-2 c =
+    let a = c .before .before .before .before .args in
+    let l = c .before .loop in
+    inr (ap More (l .inv .2 ∙ ap (leaves (a .scan)) (take-all (l .at) (a .input .now) (omega arith))))
 
 pub answer-block-spec : {M : Type 1} → statement M
 answer-block-spec =

@@ -3,6 +3,7 @@ use mathlib.Core.Path.{_≡_, sym}
 use borrow.Author.Needs.{needs}
 use lib.ListN.{length}
 use lib.Seq.{length-take-le}
+use Rattle.text.specs.WroteLaws.{wrote-fits}
 use Rattle.cradlekeel.proofs.main.Statement.{statement}
 use Rattle.cradlekeel.proofs.main.Tie as tie
 
@@ -58,12 +59,12 @@ finish-requires : tie.Need-finish-requires Inv-loop μ-loop
 finish-requires c κs = search needs
 
 array-share-prefix-last : tie.Need-array-share-prefix-last Inv-loop μ-loop
-array-share-prefix-last c = search needs
+array-share-prefix-last c = wrote-fits (c .finish .ensures)
 
 slice-aggregate-write-output : tie.Need-slice-aggregate-write-output Inv-loop μ-loop
 slice-aggregate-write-output c =
     let f = c .before .finish in
-    sym (length-take-le (f .result) (f .last .1 .0) (f .ensures .fits))
+    sym (length-take-le (f .result) (f .last .1 .0) (wrote-fits (f .ensures)))
 
 write-output-requires : tie.Need-write-output-requires Inv-loop μ-loop
 write-output-requires c κs = search needs

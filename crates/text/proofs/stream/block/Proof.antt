@@ -7,7 +7,7 @@ use borrow.Author.Needs.{needs}
 use lib.ListN.{length, getD, take, drop}
 use Rattle.text.specs.declared.grammar.Scan.{Scan}
 use Rattle.text.specs.Code.Wrote.{Wrote}
-use Rattle.text.specs.WroteLaws.{wrote-length, wrote-nothing, wrote-then, wrote-as}
+use Rattle.text.specs.WroteLaws.{wrote-length, wrote-fits, wrote-nothing, wrote-then, wrote-as}
 use Rattle.text.specs.Code.Block.{emitted, nextScan, emits, leaves, reads}
 use Rattle.text.specs.BlockLaws.{leaves-take, emits-take, reads-full, reads-end, reads-next}
 use Rattle.text.proofs.stream.block.Statement.{statement}
@@ -30,7 +30,7 @@ loop-holds c =
     (search needs, refl, wrote-nothing 0 (a .out .now) (omega arith), omega (arith, ap (λ (n : ℕ). reads (a .scan) n (a .input .now)) room))
 
 sub-if1 : tie.Need-sub-if1 Inv-loop μ-loop
-sub-if1 c = omega (arith, c .before .loop .inv .2 .fits, wrote-length (c .before .loop .inv .2))
+sub-if1 c = wrote-fits (c .before .loop .inv .2)
 
 same-length : tie.Need-same-length Inv-loop μ-loop
 same-length c = wrote-length (c .before .before .loop .inv .2)

@@ -1,0 +1,20 @@
+-- What a turn of the program carries on; of the bytes that the system reads and writes nothing can be said.
+use Prim.Native.Nat.{ℕ, _≤_, _<_}
+use mathlib.Core.Path.{_≡_}
+use mathlib.Core.List.{List}
+use mathlib.Core.Logic.{_⊎_}
+use lib.ListN.{length, take}
+use Rattle.text.specs.declared.grammar.Scan.{Scan}
+use Rattle.text.specs.Code.Block.{leaves}
+use Rattle.cradlekeel.specs.declared.Turn.{Turn}
+use Rattle.cradlekeel.specs.declared.Turn.the-variants.{More, Ended, Failed}
+
+-- after a block: a write failed, or the line carried on is that after the whole block
+abbrev pub Carries : Scan → List ℕ → Turn → Type 0
+Carries scan block turn = (turn ≡ Failed) ⊎ (turn ≡ More (leaves scan block))
+
+-- after a read into a buffer: the read or a write failed, the input has ended, or the line carried on is that after the bytes, one at
+-- least, at the start of the buffer
+abbrev pub Reads : Scan → List ℕ → Turn → Type 0
+Reads scan buffer turn =
+    (turn ≡ Failed) ⊎ ((turn ≡ Ended) ⊎ ((n : ℕ) × (0 < n) × (n ≤ length buffer) × (turn ≡ More (leaves scan (take n buffer)))))
