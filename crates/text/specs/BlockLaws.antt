@@ -58,7 +58,7 @@ reads-next s room l i h r =
     let x = getD l i 0 in
     ap (reads s room) (drop-cons l i 0 h) ∙ simp (le-ltb room lineRoom r) (ap (λ (n : ℕ). suc (reads (nextScan s x) (room - length (emitted s x)) (drop n l))) (sym (add-one i)))
 
-pub reads-within : (s : Scan) (room : ℕ) (l : List ℕ) → reads s room l ≤ length l
+reads-within : (s : Scan) (room : ℕ) (l : List ℕ) → reads s room l ≤ length l
 reads-within s room [] = omega arith
 reads-within s room (x ∷ l) = by-room (ltb room lineRoom) (reads-within (nextScan s x) (room - length (emitted s x)) l)
   where
@@ -67,7 +67,7 @@ reads-within s room (x ∷ l) = by-room (ltb room lineRoom) (reads-within (nextS
     by-room false h = omega arith
 
 -- a block is read at all where an answer fits
-pub reads-some : (s : Scan) (room : ℕ) (l : List ℕ) → lineRoom ≤ room → 0 < length l → 0 < reads s room l
+reads-some : (s : Scan) (room : ℕ) (l : List ℕ) → lineRoom ≤ room → 0 < length l → 0 < reads s room l
 reads-some s room [] r h = h
 reads-some s room (x ∷ l) r h = rw (le-ltb room lineRoom r) (omega arith)
 

@@ -59,7 +59,7 @@ words-total : (l : List ℕ) → suc (length l) ≡ total (words l)
 words-total [] = omega arith
 words-total (x ∷ l) = total-byte (eqb x space) x l (words-total l)
 
-pub number-length : (w : List ℕ) → isNumber w ≡ true → length w ≤ 7
+number-length : (w : List ℕ) → isNumber w ≡ true → length w ≤ 7
 number-length w h =
     leb-true (length w) 7 (and-both (leb 1 (length w)) (leb (length w) 7) (and-both (every isDigit w) (leb 1 (length w) && leb (length w) 7) h .1) .1)
 

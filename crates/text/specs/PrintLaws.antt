@@ -1,5 +1,5 @@
 -- Laws of the printed line: the parts in which it is printed, and its length.
-use Prim.Native.Nat.{ℕ, _+_, _≤_}
+use Prim.Native.Nat.{ℕ, _≤_}
 use mathlib.Core.Path.{_≡_, ap}
 use mathlib.Core.List.{List, _∷_, _++_, append-assoc}
 use native.Mathlib.Omega.{arith}
@@ -38,7 +38,7 @@ accepted-halves a = simp append-assoc
 pub field-short : (n : ℕ) → length (fieldText n) ≤ 11
 field-short n = omega (arith, digits-short 10 n)
 
-pub class-short : (c : ℕ) → length (classText c) ≤ 10
+class-short : (c : ℕ) → length (classText c) ≤ 10
 class-short c = cond-both (λ (t : List ℕ). length t ≤ 10) (eqb c noClass) (omega arith) (digits-short 10 c)
 
 pub places-short : (place low high : ℕ) → length (placesText place low high) ≤ 34
@@ -49,7 +49,7 @@ rest-short : (duv : ℤ) (steps class : ℕ) → length (restText duv steps clas
 rest-short d s c =
     omega (arith, length-append (signed d) (fieldText s ++ (space ∷ classText c)), length-append (fieldText s) (space ∷ classText c), signed-short d, field-short s, class-short c)
 
-pub answer-short : (a : Answer) → length (answerText a) ≤ 68
+answer-short : (a : Answer) → length (answerText a) ≤ 68
 answer-short a =
     let places = places-short (a .place) (a .low) (a .high) in
     let rest = rest-short (a .duv) (a .steps) (a .class) in

@@ -4,7 +4,7 @@ ghost use Prim.Native.Nat.{_≤_};
 ghost use Rattle.text.specs.Code.Scan.{emptyScan, badScan, scanSpace, scanDigit, scanByte, isEmpty, scanLine};
 
 // What a line says.
-pub enum Line {
+pub(crate) enum Line {
     // Refusal 8.
     Unreadable,
     // u and v in micro, and the most steps to take.

@@ -3,7 +3,6 @@ mod grammar;
 mod print;
 mod stream;
 
-pub use grammar::Line;
 pub use grammar::Scan;
 pub use stream::Done;
 pub use stream::LINE_ROOM;

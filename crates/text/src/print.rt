@@ -8,7 +8,7 @@ use refusal::Refusal;
 ghost use mathlib.Core.Path.{_≡_};
 ghost use mathlib.Core.List.{[], _∷_};
 ghost use lib.ListN.{length};
-ghost use Prim.Native.Nat.{_+_, _≤_, _<_};
+ghost use Prim.Native.Nat.{_+_, _≤_};
 ghost use Rattle.reading.specs.Convert.{convertWhole};
 ghost use Rattle.cct.specs.Answers.{answer};
 ghost use Rattle.text.specs.Code.Wrote.{Wrote};
