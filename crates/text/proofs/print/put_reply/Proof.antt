@@ -1,7 +1,9 @@
 -- Each return is the clause of `replyTo` for the line's constructor; refusal 8 has its number from `numberOf`.
-use mathlib.Core.Path.{ap, sym, _∙_}
+use mathlib.Core.Path.{_≡_, ap, sym, _∙_}
 use Rattle.text.specs.Decimal.{decimal}
-use Rattle.text.specs.Print.{answerText, replyTo}
+use Rattle.reading.specs.Convert.{convertWhole}
+use Rattle.cct.specs.Answers.{answer}
+use Rattle.text.specs.Print.{programEdges, answerText, replyTo}
 use Rattle.text.specs.WroteLaws.{wrote-as}
 use borrow.Author.Needs.{needs}
 use Rattle.text.proofs.print.put_reply.Statement.{statement}
@@ -43,8 +45,9 @@ same-length-2 c = search needs
 returns-2 : tie.Need-returns-2
 unfolding replyTo
 returns-2 c =
-    wrote-as (ap replyTo (c .before .before .before .before .before .before .line .given .1) ∙ sym (ap answerText (c .before .before .before .before .answer-of .ensures)))
-    (c .before .before .put-answer .ensures)
+    let p = c .before .before .before .before .before .before .line .given .0 in
+    let a : c .before .before .before .before .answer-of .result ≡ answer programEdges (convertWhole (p .0) (p .1 .0)) (p .1 .1 .0) = c .before .before .before .before .answer-of .ensures in
+    wrote-as (ap replyTo (c .before .before .before .before .before .before .line .given .1) ∙ sym (ap answerText a)) (c .before .before .put-answer .ensures)
 
 pub put-reply-spec : {M : Type 1} → statement M
 put-reply-spec =
