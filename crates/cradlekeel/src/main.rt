@@ -3,7 +3,7 @@ use text::Scan;
 ghost use Prim.Native.Nat.{_≤_};
 ghost use lib.ListN.{length};
 ghost use Rattle.text.specs.Code.Block.{lineRoom};
-ghost use Rattle.cradlekeel.specs.Code.Turns.{Carries, Reads};
+ghost use Rattle.cradlekeel.specs.Code.Turns.{AfterBlock, AfterRead};
 
 // What one read of the input came to.
 enum Turn {
@@ -27,7 +27,7 @@ fn write_output(part: &[u8]) -> bool {
 // Writes the answers to the lines that end in a block of input.
 fn answer_block(scan: Scan, input: &[u8], output: &mut [u8]) -> Turn
     requires { ⌜ lineRoom ≤ length (now output) ⌝ }
-    ensures { λ r. ⌜ Carries scan (now (input .entry)) r ⌝ }
+    ensures { λ r. ⌜ AfterBlock scan (now (input .entry)) r ⌝ }
 {
     let mut s = scan;
     let mut at: usize = 0;
@@ -46,7 +46,7 @@ fn answer_block(scan: Scan, input: &[u8], output: &mut [u8]) -> Turn
 // Reads once, and answers what was read; where it cannot read, it says so on standard error.
 fn read_block(scan: Scan, input: &mut [u8], output: &mut [u8]) -> Turn
     requires { ⌜ lineRoom ≤ length (now output) ⌝ }
-    ensures { λ r. ⌜ Reads scan (now (input .exit)) r ⌝ }
+    ensures { λ r. ⌜ AfterRead scan (now (input .exit)) r ⌝ }
 {
     let got = libc::read(0, input);
     if got < 0 {

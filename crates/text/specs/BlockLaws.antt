@@ -6,13 +6,12 @@ use mathlib.Core.Bool.{Bool, true, false, cond}
 use native.Mathlib.Omega.{arith}
 use native.Mathlib.Numerals.{add-one}
 use lib.ListN.{length, take, drop, getD, drop-of-length-le}
-use lib.Seq.{drop-cons, take-add}
+use lib.Seq.{drop-cons, take-add, take-suc}
 use lib.Dec.{ltb}
 use borrow.Author.Tests.{le-ltb, lt-ltb}
 use Rattle.text.specs.declared.grammar.Scan.{Scan}
 use Rattle.text.specs.declared.stream.Done.{Done}
 use Rattle.text.specs.Code.Scan.{isEmpty, scanLine}
-use Rattle.text.specs.ScanLaws.{take-one}
 use Rattle.text.specs.Print.{replyLine}
 use Rattle.text.specs.Code.Block.{emitted, nextScan, emits, leaves, closes, lineRoom, reads, Blocked}
 
@@ -28,6 +27,9 @@ emits-append s (x ∷ l) m =
     ap (λ (z : List ℕ). emitted s x ++ z) (emits-append s' l m) ∙ sym (append-assoc (emitted s x) (emits s' l) (emits (leaves s' l) m))
 
 -- one byte more
+take-one : (l : List ℕ) (i : ℕ) → i < length l → take (i + 1) l ≡ take i l ++ (getD l i 0 ∷ [])
+take-one l i h = ap (λ (n : ℕ). take n l) (add-one i) ∙ take-suc l i 0 h
+
 pub leaves-take : (s : Scan) (l : List ℕ) (i : ℕ) → i < length l → leaves s (take (i + 1) l) ≡ nextScan (leaves s (take i l)) (getD l i 0)
 leaves-take s l i h = ap (leaves s) (take-one l i h) ∙ leaves-append s (take i l) (getD l i 0 ∷ [])
 

@@ -71,6 +71,6 @@ numbersOf (u ∷ v ∷ n ∷ m ∷ rest) = Unreadable
 abbrev pub wordsLine : List (List ℕ) → Line
 wordsLine ws = cond (every isNumber ws) (numbersOf (map value ws)) Unreadable
 
--- what a line says: an empty line, or one over 32 bytes, cannot be read
+-- what a line says, where it has 1 to 32 bytes; any other cannot be read
 unfoldable pub lineOf : List ℕ → Line
 lineOf l = cond (leb 1 (length l) && leb (length l) 32) (wordsLine (words l)) Unreadable

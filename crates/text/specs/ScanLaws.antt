@@ -6,8 +6,7 @@ use mathlib.Core.Bool.{Bool, true, false, cond, _&&_, and-true, and-false}
 use native.Mathlib.Omega.{arith}
 use native.Mathlib.Nat.{pow-suc, pow-le-pow-right}
 use native.Mathlib.Numerals.{add-one}
-use lib.ListN.{length, length-append, take, getD}
-use lib.Seq.{take-suc}
+use lib.ListN.{length, length-append}
 use lib.Dec.{leb, ltb, eqb}
 use borrow.Author.Tests.{le-ltb, le-leb, lt-leb, ne-eqb, ltb-true, ltb-false, leb-true, eqb-true, eqb-false}
 use Rattle.arith.specs.Every.{every}
@@ -23,9 +22,6 @@ use Rattle.text.specs.Code.Scan.{emptyScan, badScan, scanSpace, scanByte
 pub scan-snoc : (s : Scan) (l : List ℕ) (x : ℕ) → scanned s (l ++ (x ∷ [])) ≡ scanByte (scanned s l) x
 scan-snoc s [] x = refl
 scan-snoc s (y ∷ l) x = scan-snoc (scanByte s y) l x
-
-pub take-one : (l : List ℕ) (i : ℕ) → i < length l → take (i + 1) l ≡ take i l ++ (getD l i 0 ∷ [])
-take-one l i h = ap (λ (n : ℕ). take n l) (add-one i) ∙ take-suc l i 0 h
 
 -- a scan, by its numbers
 abbrev mk : ℕ → ℕ → ℕ → ℕ → ℕ → Scan

@@ -46,7 +46,7 @@ pub struct Done {
 
 // A block of the input, as far as there is room for its output.
 pub fn block(scan: Scan, input: &[u8], out: &mut [u8]) -> Done
-    ensures output { λ r. ⌜ Blocked scan (now (input .entry)) (now (out .entry)) (now (out .exit)) r ⌝ }
+    ensures result { λ r. ⌜ Blocked scan (now (input .entry)) (now (out .entry)) (now (out .exit)) r ⌝ }
     ensures unchanged { λ r. ⌜ now (input .exit) ≡ now (input .entry) ⌝ }
 {
     let mut s = scan;
