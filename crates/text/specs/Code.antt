@@ -1,4 +1,4 @@
--- What the contracts of functions inside the crate say; no reader of the rules needs it.
+-- What the contracts say on the way from bytes to bytes: a line read byte by byte, a block, an append. `whole-output` of StreamLaws ties it to the rules.
 pub mod Scan
 pub mod Block
 pub mod Wrote
