@@ -8,14 +8,10 @@ use lib.IntN.{ℤ, pos, negsuc, natAbs}
 use lib.Signed.{ltZ}
 use borrow.Author.Tests.{ltb-true}
 use mir.Syntax.{w32}
-use mir.Val.{SFits, toZ, ofZ}
-use mir.Facts.{toZ-ofZ}
+use mir.Val.{SFits}
+use Rattle.arith.specs.SignedLaws.{read, back}
 use Rattle.text.specs.Line.{minusSign}
 use Rattle.text.specs.Decimal.{decimal, signed}
-
--- a number as the machine reads it back from 32 bits
-abbrev pub read : ℤ → ℤ
-read z = toZ w32 (ofZ w32 z)
 
 signed-neg : (z : ℤ) → ltZ z (pos 0) ≡ true → signed z ≡ minusSign ∷ decimal (natAbs z)
 signed-neg (pos n) h = let k = ltb-true n 0 h in absurd (omega arith)
@@ -26,11 +22,8 @@ signed-pos (pos n) h = refl
 signed-pos (negsuc n) h = absurd (true≢false h)
 
 module _ {z : ℤ} (fits : SFits w32 z) where
-  pub back : read z ≡ z
-  back = toZ-ofZ fits
+  pub prints-neg : ltZ (read w32 z) (pos 0) ≡ true → (n : ℕ) → n ≡ natAbs (read w32 z) → signed z ≡ minusSign ∷ decimal n
+  prints-neg h n e = signed-neg z (rw (back fits) at h) ∙ ap (λ (m : ℕ). minusSign ∷ decimal m) (sym (e ∙ ap natAbs (back fits)))
 
-  pub prints-neg : ltZ (read z) (pos 0) ≡ true → (n : ℕ) → n ≡ natAbs (read z) → signed z ≡ minusSign ∷ decimal n
-  prints-neg h n e = signed-neg z (rw back at h) ∙ ap (λ (m : ℕ). minusSign ∷ decimal m) (sym (e ∙ ap natAbs back))
-
-  pub prints-pos : ltZ (read z) (pos 0) ≡ false → (n : ℕ) → n ≡ natAbs (read z) → signed z ≡ decimal n
-  prints-pos h n e = signed-pos z (rw back at h) ∙ ap decimal (sym (e ∙ ap natAbs back))
+  pub prints-pos : ltZ (read w32 z) (pos 0) ≡ false → (n : ℕ) → n ≡ natAbs (read w32 z) → signed z ≡ decimal n
+  prints-pos h n e = signed-pos z (rw (back fits) at h) ∙ ap decimal (sym (e ∙ ap natAbs (back fits)))

@@ -8,17 +8,13 @@ use lib.ListN.{length}
 use lib.IntN.{ℤ, pos, negsuc}
 use lib.Signed.{ltZ}
 use mir.Syntax.{w64}
-use mir.Val.{SFits, toZ, ofZ}
-use mir.Facts.{toZ-ofZ}
+use mir.Val.{SFits, ofZ}
+use Rattle.arith.specs.SignedLaws.{read, back}
 use Rattle.libc.specs.Io.{Moved}
 use Rattle.io.specs.Counts.{clamped}
 use borrow.Author.Needs.{needs}
 use Rattle.cradlekeel.proofs.read_block.Statement.{statement}
 use Rattle.cradlekeel.proofs.read_block.Tie as tie
-
--- a number as the machine reads it back from 64 bits
-abbrev read : ℤ → ℤ
-read z = toZ w64 (ofZ w64 z)
 
 some-count : (z : ℤ) (l : ℕ) → Moved l z → ltZ z (pos 0) ≡ false → (ofZ w64 z ≡ 0 → ⊥) → 0 < clamped z l
 some-count (pos k) l moved h some = let ne : k ≡ 0 → ⊥ = λ e. some (ap (λ (m : ℕ). ofZ w64 (pos m)) e) in omega arith
@@ -26,10 +22,9 @@ some-count (negsuc k) l moved h some = absurd (true≢false h)
 
 -- what a call moved, where it did not fail and moved something
 some-read :
-    (z : ℤ) (n l : ℕ) → SFits w64 z → Moved l z → ltZ (read z) (pos 0) ≡ false → (ofZ w64 z ≡ 0 → ⊥) → n ≡ clamped (read z) l → 0 < n
+    (z : ℤ) (n l : ℕ) → SFits w64 z → Moved l z → ltZ (read w64 z) (pos 0) ≡ false → (ofZ w64 z ≡ 0 → ⊥) → n ≡ clamped (read w64 z) l → 0 < n
 some-read z n l fits moved h some count =
-    let back : read z ≡ z = toZ-ofZ fits in
-    rw (count ∙ ap (λ (y : ℤ). clamped y l) back) (some-count z l moved (rw back at h) some)
+    rw (count ∙ ap (λ (y : ℤ). clamped y l) (back fits)) (some-count z l moved (rw (back fits) at h) some)
 
 read-requires : tie.Need-read-requires
 read-requires c κs = search needs

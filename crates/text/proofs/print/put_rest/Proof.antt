@@ -7,7 +7,7 @@ use mir.Val.{toZ, ofZ}
 use Rattle.text.specs.WroteLaws.{wrote-then, wrote-room, wrote-as}
 use Rattle.text.specs.DecimalLaws.{signed-short}
 use Rattle.text.specs.PrintLaws.{restText, field-short}
-use Rattle.text.proofs.Signed.{back}
+use Rattle.arith.specs.SignedLaws.{back}
 use borrow.Author.Needs.{needs}
 use Rattle.text.proofs.print.put_rest.Statement.{statement}
 use Rattle.text.proofs.print.put_rest.Tie as tie
