@@ -10,9 +10,9 @@ use native.Mathlib.Omega.{arith}
 use lib.ListN.{length}
 use borrow.Author.Tests.{leb-true, le-leb, ltb-true, lt-ltb}
 use Rattle.arith.specs.TestLaws.{and-both, both-and, cond-both}
-use Rattle.classes.specs.Edges.{edge, rising}
-use Rattle.classes.specs.EdgeLaws.{edge-le}
-use Rattle.classes.specs.Classes.{kelvinPlaces, atLeast, below, holds, holdsAll, noClass, lastPassing, classOf}
+use Rattle.classes.specs.Edges.{edge, rising, edgesValid}
+use Rattle.classes.specs.EdgeLaws.{edge-le, valid-short}
+use Rattle.classes.specs.Classes.{kelvinPlaces, atLeast, below, holds, holdsAll, noClass, lastPassing, classCount, classOf}
 
 -- it is hotter at a lower place
 pub at-least-lower : (e : ℕ) {x y : ℕ} → x ≤ y → atLeast e y ≡ true → atLeast e x ≡ true
@@ -45,8 +45,8 @@ module _ (es : List ℕ) (up : rising es ≡ true) where
       omega arith
 
 -- class j is one of the classes, and holds the bracket's ends and its best point
-pub record HoldsAll (es : List ℕ) (low high best j : ℕ) : Type 0 where
-  pub below : j < length es - 1
+pub record InClass (es : List ℕ) (low high best j : ℕ) : Type 0 where
+  pub below : j < classCount es
   pub holds-low : holds es j low ≡ true
   pub holds-high : holds es j high ≡ true
   pub holds-best : holds es j best ≡ true
@@ -79,30 +79,34 @@ passing-last f (suc n) k l e only = go (f n) refl (λ t. passing-last f n k t e 
     go true x r = only n (le-refl _) x
     go false x r = ⊎-elim (λ q. let z : f n ≡ true = rw (← q) e in let y : true ≡ false = sym z ∙ x in cc) r (eq-or-lt-of-le (le-of-suc-le-suc l))
 
-last-small : (f : ℕ → Bool) (n : ℕ) → n ≤ 255 → lastPassing f n ≤ 255
+last-small : (f : ℕ → Bool) (n : ℕ) → n ≤ noClass → lastPassing f n ≤ noClass
 unfolding lastPassing
 last-small f zero h = le-refl _
-last-small f (suc n) h = cond-both (λ (k : ℕ). k ≤ 255) (f n) (omega arith) (last-small f n (omega arith))
+last-small f (suc n) h = cond-both (λ (k : ℕ). k ≤ noClass) (f n) (omega arith) (last-small f n (omega arith))
 
 module _ (es : List ℕ) (low high best : ℕ) where
   -- a class that is named holds all three places
-  pub named-holds : (classOf es low high best ≡ noClass → ⊥) → HoldsAll es low high best (classOf es low high best)
+  pub named-holds : (classOf es low high best ≡ noClass → ⊥) → InClass es low high best (classOf es low high best)
   named-holds w =
       let j : ℕ = classOf es low high best in
-      let r = last-passes (holdsAll es low high best) (length es - 1) w in
+      let r = last-passes (holdsAll es low high best) (classCount es) w in
       let x = and-both (holds es j low && holds es j high) (holds es j best) (r .1) in
       let y = and-both (holds es j low) (holds es j high) (x .0) in
       record { below = r .0; holds-low = y .0; holds-high = y .1; holds-best = x .1 }
 
   -- where the edges rise, a class that holds all three places is named
-  pub holds-named : rising es ≡ true → {j : ℕ} → HoldsAll es low high best j → classOf es low high best ≡ j
+  pub holds-named : rising es ≡ true → {j : ℕ} → InClass es low high best j → classOf es low high best ≡ j
   holds-named up {j} h =
-      passing-last (holdsAll es low high best) (length es - 1) j (h .below) (both-and (both-and (h .holds-low) (h .holds-high)) (h .holds-best))
-      (λ i l p. one-class es up low i j l (h .below) (and-both (holds es i low) (holds es i high) (and-both (holds es i low && holds es i high) (holds es i best) p .0) .0) (h .holds-low))
+      passing-last (holdsAll es low high best) (classCount es) j (h .below) (both-and (both-and (h .holds-low) (h .holds-high)) (h .holds-best))
+      (λ i l p. one-class es up low i j (omega arith) (omega (arith, h .below)) (and-both (holds es i low) (holds es i high) (and-both (holds es i low && holds es i high) (holds es i best) p .0) .0) (h .holds-low))
 
   -- a class number fits a byte
-  pub class-small : length es ≤ 256 → classOf es low high best ≤ 255
-  class-small h = last-small (holdsAll es low high best) (length es - 1) (omega arith)
+  pub class-small : classOf es low high best ≤ noClass
+  class-small = last-small (holdsAll es low high best) (classCount es) (omega arith)
+
+-- every class of valid edges is looked at
+pub valid-count : (es : List ℕ) → edgesValid es ≡ true → classCount es ≡ length es - 1
+valid-count es v = let h = valid-short es v in omega arith
 
 -- a class that is named for a bracket is named for every bracket within it whose best point is the same or lies in the first bracket
 pub class-kept :

@@ -1,7 +1,7 @@
 -- The class of a bracket with its best point (document 01, "Shelf classes").
 use mathlib.Core.Bool.{Bool, _&&_, cond}
 use mathlib.Core.List.{List}
-use Prim.Native.Nat.{ℕ, zero, suc, _+_, _-_, _*_}
+use Prim.Native.Nat.{ℕ, zero, suc, _+_, _-_, _*_, min}
 use lib.Dec.{leb, ltb}
 use lib.ListN.{length}
 use Rattle.classes.specs.Edges.{edge}
@@ -35,6 +35,10 @@ unfoldable pub lastPassing : (ℕ → Bool) → ℕ → ℕ
 lastPassing f zero = noClass
 lastPassing f (suc n) = cond (f n) n (lastPassing f n)
 
+-- how many classes are looked at: each has an edge that ends it, and a number below noClass. (Valid edges make at most 31 classes)
+abbrev pub classCount : List ℕ → ℕ
+classCount es = min noClass (length es - 1)
+
 -- the class that holds all three places, otherwise noClass. (Where the edges rise, at most one class holds a place)
 abbrev pub classOf : List ℕ → ℕ → ℕ → ℕ → ℕ
-classOf es low high best = lastPassing (holdsAll es low high best) (length es - 1)
+classOf es low high best = lastPassing (holdsAll es low high best) (classCount es)

@@ -1,11 +1,9 @@
 // The class edges that the caller lends, and the class of a bracket with its best point (document 01's "shelf classes").
 ghost use mathlib.Core.Path.{_≡_};
 ghost use mathlib.Core.Bool.{_&&_};
-ghost use Prim.Native.Nat.{_≤_, min, max};
-ghost use lib.Dec.{leb};
-ghost use lib.ListN.{length};
-ghost use Rattle.classes.specs.Edges.{edgesValid};
-ghost use Rattle.classes.specs.Classes.{atLeast, below, classOf};
+ghost use Prim.Native.Nat.{_-_, min, max};
+ghost use Rattle.classes.specs.Edges.{isEdge, edgesValid};
+ghost use Rattle.classes.specs.Classes.{noClass, atLeast, below, classOf};
 
 // The temperature at a place is this many kelvin over the place.
 const KELVIN_PLACES: u64 = 103360000;
@@ -15,7 +13,7 @@ const NO_CLASS: u8 = 255;
 
 // Whether an edge is from 1600 to 20001.
 fn in_range(edge: u32) -> bool
-    ensures { λ r. ⌜ r ≡ leb 1600 edge && leb edge 20001 ⌝ }
+    ensures { λ r. ⌜ r ≡ isEdge edge ⌝ }
 {
     (1600 <= edge) & (edge <= 20001)
 }
@@ -62,17 +60,31 @@ fn is_within(from: u32, to: u32, hottest: u32, coolest: u32) -> bool
     (lower <= KELVIN_PLACES) & (KELVIN_PLACES < upper)
 }
 
+// How many classes so many edges make, counting those with a number below 255.
+fn class_count(edges: usize) -> usize
+    ensures { λ r. ⌜ r ≡ min noClass (edges - 1) ⌝ }
+{
+    if edges == 0 {
+        return 0;
+    }
+    if edges <= NO_CLASS as usize {
+        edges - 1
+    } else {
+        NO_CLASS as usize
+    }
+}
+
 // The class that holds the bracket's ends and its best point, otherwise 255.
 pub fn class_of(edges: &[u32], low: u32, high: u32, best: u32) -> u8
-    requires { ⌜ length (now edges) ≤ 256 ⌝ }
     ensures class { λ r. ⌜ r ≡ classOf (now (edges .entry)) low high best ⌝ }
     ensures unchanged { λ r. ⌜ now (edges .exit) ≡ now (edges .entry) ⌝ }
 {
     let hottest = lesser(lesser(low, high), best);
     let coolest = greater(greater(low, high), best);
+    let count = class_count(edges.len());
     let mut named = NO_CLASS;
     let mut k: usize = 0;
-    while k + 1 < edges.len() {
+    while k < count {
         if is_within(edges[k], edges[k + 1], hottest, coolest) {
             named = k as u8;
         }

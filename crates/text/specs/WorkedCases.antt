@@ -19,7 +19,7 @@ use Rattle.locus.specs.Stored.{storedU, storedV, tableU, tableV, entryIn}
 use Rattle.locus.specs.Locus.{between, locusAt, squaredDistance, distanceAt, entryDistance}
 use Rattle.locus.specs.Admission.{admission}
 use Rattle.search.specs.Golden.{fibonacci, start, step, after}
-use Rattle.classes.specs.Edges.{allBelow, edgesValid}
+use Rattle.classes.specs.Edges.{edgesValid}
 use Rattle.classes.specs.Classes.{lastPassing}
 use Rattle.cct.specs.Answers.{checkedPoint, checked, duvAt, accepted, answer}
 use Rattle.text.specs.Line.{newline, lineOf}
@@ -77,5 +77,5 @@ cases =
     ∷ []
 
 pub worked-cases : map (λ (c : Case). c .given) cases ≡ map (λ (c : Case). c .expected) cases
-unfolding cases lineOf replyTo toWhole inRange ofCoordinates ofTristimulus convertReading storedU storedV tableU tableV entryIn between locusAt squaredDistance distanceAt entryDistance leastOf admission fibonacci start step after allBelow edgesValid lastPassing rootIn checkedPoint checked duvAt accepted answer
+unfolding cases lineOf replyTo toWhole inRange ofCoordinates ofTristimulus convertReading storedU storedV tableU tableV entryIn between locusAt squaredDistance distanceAt entryDistance leastOf admission fibonacci start step after edgesValid lastPassing rootIn checkedPoint checked duvAt accepted answer
 worked-cases = refl

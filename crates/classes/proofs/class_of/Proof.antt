@@ -1,22 +1,21 @@
 -- `class_of` meets its contract: `named` is the last of the classes passed that holds all three places.
-use mathlib.Core.Path.{_≡_, refl, sym, _∙_}
+use mathlib.Core.Path.{_≡_, refl, sym, ap, _∙_}
 use mathlib.Core.Logic.{⊎-elim}
 use Prim.Native.Nat.{_-_, _≤_}
 use native.Mathlib.Omega.{arith}
-use lib.ListN.{length}
 use borrow.Author.Needs.{needs}
 use denote.Ref.{now}
-use Rattle.classes.specs.Classes.{holdsAll, lastPassing}
+use Rattle.classes.specs.Classes.{holdsAll, lastPassing, classCount}
 use Rattle.classes.specs.ClassLaws.{last-next}
 use Rattle.classes.proofs.Ends.{holds-ends}
 use Rattle.classes.proofs.class_of.Statement.{statement}
 use Rattle.classes.proofs.class_of.Tie as tie
 
 abbrev Inv-loop : tie.InvT-loop
-Inv-loop edges low high best hottest coolest named₀ k₀ named k = (k ≤ length edges - 1) × (named ≡ lastPassing (holdsAll edges low high best) k)
+Inv-loop edges low high best hottest coolest count named₀ k₀ named k = (k ≤ count) × (named ≡ lastPassing (holdsAll edges low high best) k)
 
 abbrev μ-loop : tie.MeasureT-loop
-μ-loop edges low high best hottest coolest named₀ k₀ named k = length edges - k
+μ-loop edges low high best hottest coolest count named₀ k₀ named k = count - k
 
 lesser-requires : tie.Need-lesser-requires Inv-loop μ-loop
 lesser-requires c κs = search needs
@@ -30,12 +29,12 @@ greater-requires c κs = search needs
 greater-requires-2 : tie.Need-greater-requires-2 Inv-loop μ-loop
 greater-requires-2 c κs = search needs
 
+class-count-requires : tie.Need-class-count-requires Inv-loop μ-loop
+class-count-requires c κs = search needs
+
 loop-holds : tie.Need-loop-holds Inv-loop μ-loop
 unfolding lastPassing
 loop-holds c = (omega arith, refl)
-
-add-loop : tie.Need-add-loop Inv-loop μ-loop
-add-loop c = omega arith
 
 mul-is-within : tie.Need-mul-is-within Inv-loop μ-loop
 mul-is-within c = search needs
@@ -66,12 +65,11 @@ loop-less c = omega arith
 
 loop-again : tie.Need-loop-again Inv-loop μ-loop
 loop-again c =
-    let a = c .before .before .before .before .before .before .before .before .before .before .before .args in
+    let a = c .before .before .before .before .before .before .before .before .before .before .before .before .args in
     let k = c .before .before .before .before .before .loop .k in
     let f = holdsAll (now (a .edges)) (a .low) (a .high) (a .best) in
     let h =
-    holds-ends (now (a .edges)) (a .low) (a .high) (a .best) k
-    (c .before .before .before .before .before .before .before .before .before .lesser .ensures) (c .before .before .before .before .before .before .before .before .lesser2 .ensures) (c .before .before .before .before .before .before .before .greater .ensures) (c .before .before .before .before .before .before .greater2 .ensures)
+    holds-ends (now (a .edges)) (a .low) (a .high) (a .best) k (c .before .before .before .before .before .before .before .before .before .before .lesser .ensures) (c .before .before .before .before .before .before .before .before .before .lesser2 .ensures) (c .before .before .before .before .before .before .before .before .greater .ensures) (c .before .before .before .before .before .before .before .greater2 .ensures)
     (c .before .is-within .ensures) in
     ⊎-elim
     (λ w. (omega arith, w .1 ∙ sym (last-next f k (h ∙ w .0 .taken))))
@@ -80,8 +78,9 @@ loop-again c =
 
 returns : tie.Need-returns Inv-loop μ-loop
 returns c =
-    let e : c .before .loop .k ≡ length (now (c .before .before .before .before .before .before .before .args .edges)) - 1 = omega arith in
-    (cc, refl)
+    let a = c .before .before .before .before .before .before .before .before .args in
+    let e : c .before .loop .k ≡ classCount (now (a .edges)) = omega arith in
+    (c .before .loop .inv .1 ∙ ap (lastPassing (holdsAll (now (a .edges)) (a .low) (a .high) (a .best))) e, refl)
 
 pub class-of-spec : {M : Type 1} → statement M
 class-of-spec =
@@ -93,8 +92,8 @@ class-of-spec =
     lesser-requires-2
     greater-requires
     greater-requires-2
+    class-count-requires
     loop-holds
-    add-loop
     mul-is-within
     shared-slice-read-is-within
     add-is-within

@@ -4,17 +4,18 @@ use mathlib.Core.Bool.{and-false}
 use mathlib.Core.Logic.{⊎-elim}
 use Prim.Native.Nat.{_-_, _≤_}
 use native.Mathlib.Omega.{arith}
-use lib.ListN.{length}
+use lib.ListN.{length, take}
 use borrow.Author.Needs.{needs}
 use borrow.Author.Tests.{lt-leb, ltb-true, ltb-false}
 use denote.Ref.{now}
-use Rattle.classes.specs.Edges.{allBelow, risesAt, inRangeAt, edgesValid}
-use Rattle.classes.specs.EdgeLaws.{all-next, valid-ends}
+use Rattle.arith.specs.Every.{every}
+use Rattle.classes.specs.Edges.{neighbours, rises, isEdge, edgesValid}
+use Rattle.classes.specs.EdgeLaws.{rises-next, fits-next, valid-ends}
 use Rattle.classes.proofs.edges_valid.Statement.{statement}
 use Rattle.classes.proofs.edges_valid.Tie as tie
 
 abbrev Inv-loop : tie.InvT-loop
-Inv-loop edges n last rising₀ fitting₀ k₀ rising fitting k = (k ≤ length edges - 1) × (rising ≡ allBelow k (risesAt edges)) × (fitting ≡ allBelow k (inRangeAt edges))
+Inv-loop edges n last rising₀ fitting₀ k₀ rising fitting k = (k ≤ length edges - 1) × (rising ≡ every rises (take k (neighbours edges))) × (fitting ≡ every isEdge (take k edges))
 
 abbrev μ-loop : tie.MeasureT-loop
 μ-loop edges n last rising₀ fitting₀ k₀ rising fitting k = length edges - k
@@ -29,7 +30,6 @@ sub-last : tie.Need-sub-last Inv-loop μ-loop
 sub-last c = omega arith
 
 loop-holds : tie.Need-loop-holds Inv-loop μ-loop
-unfolding allBelow
 loop-holds c = (omega arith, refl, refl)
 
 mul-rising : tie.Need-mul-rising Inv-loop μ-loop
@@ -66,7 +66,7 @@ loop-again : tie.Need-loop-again Inv-loop μ-loop
 loop-again c =
     let es = now (c .before .before .before .before .before .before .before .before .before .args .edges) in
     let k = c .before .before .before .before .before .loop .k in
-    (omega arith, cc (all-next (risesAt es) k), cc (all-next (inRangeAt es) k))
+    (omega arith, rises-next es k (omega arith) (c .before .before .before .before .before .loop .inv .1), fits-next es k (omega arith) (c .before .before .before .before .before .loop .inv .2) (c .in-range .ensures))
 
 mul-in-range-2 : tie.Need-mul-in-range-2 Inv-loop μ-loop
 mul-in-range-2 c = search needs
@@ -81,7 +81,7 @@ returns-2 : tie.Need-returns-2 Inv-loop μ-loop
 returns-2 c =
     let es = now (c .before .before .before .before .before .before .before .args .edges) in
     let e : c .before .before .before .loop .k ≡ length es - 1 = omega arith in
-    (cc (valid-ends es (omega arith) (omega (arith, ltb-false))), refl)
+    (valid-ends es (c .before .before .before .loop .k) e (omega arith) (omega (arith, ltb-false)) (c .before .before .before .loop .inv .1) (c .before .before .before .loop .inv .2) (rw e (c .in-range2 .ensures)), refl)
 
 pub edges-valid-spec : {M : Type 1} → statement M
 edges-valid-spec =
