@@ -11,7 +11,6 @@ use mir.Syntax.{w32}
 use mir.Val.{SFits}
 use Rattle.arith.specs.Root.{root}
 use Rattle.refusal.specs.declared.Refusal.{Refusal}
-use Rattle.refusal.specs.declared.Refusal.the-variants.{BadEdges}
 use Rattle.reading.specs.declared.Converted.{Converted}
 use Rattle.reading.specs.declared.Converted.the-variants as converted
 use Rattle.locus.specs.declared.Span.{Span}
@@ -85,14 +84,6 @@ pub point-accepted : (es : List ℕ) (u v n : ℕ) {m d : ℕ} → admission u v
 unfolding checkedPoint
 point-accepted es u v n e = rw e refl
 
-pub edges-refused : (es : List ℕ) (c : Converted) (n : ℕ) → edgesValid es ≡ false → refused BadEdges ≡ answer es c n
-unfolding answer checked
-edges-refused es c n e = rw e refl
-
 pub edges-passed : (es : List ℕ) (c : Converted) (n : ℕ) {k : Converted} → edgesValid es ≡ true → c ≡ k → answered es n (checkedPoint k) ≡ answer es c n
 unfolding answer checked
 edges-passed es c n e f = rw (e, f) refl
-
-pub reading-refused : (es : List ℕ) (c : Converted) (n : ℕ) {r : Refusal} → edgesValid es ≡ true → c ≡ converted.Refused r → refused r ≡ answer es c n
-unfolding answer checked checkedPoint
-reading-refused es c n e f = rw (e, f) refl

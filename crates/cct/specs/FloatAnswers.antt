@@ -1,14 +1,16 @@
--- The float answer (document 01, "The search", last paragraph): each float is one rounded division of two whole numbers held exactly.
+-- The float answer (document 01, "The search", last paragraph): each float is one rounded division of two whole numbers, which the
+-- doubles hold exactly (`FloatLaws.answer-exact`).
 use mathlib.Core.Bool.{cond}
 use Prim.Native.Nat.{ℕ}
 use lib.Dec.{eqb}
 use lib.IntN.{ℤ, pos}
 use lib.Ieee.{Float, binary64, div, ofInt}
+use Rattle.arith.specs.Units.{micro}
 use Rattle.classes.specs.Classes.{kelvinPlaces}
 use Rattle.cct.specs.declared.Answer.{Answer}
 use Rattle.cct.specs.declared.FloatAnswer.{FloatAnswer}
 
--- the double that holds a whole number
+-- a whole number as a double
 abbrev pub double : ℤ → Float
 double = ofInt binary64
 
@@ -18,7 +20,7 @@ kelvinAt place = div binary64 (double (pos kelvinPlaces)) (double (pos place))
 
 -- Duv in micro as a coordinate
 abbrev pub duvFloat : ℤ → Float
-duvFloat duv = div binary64 (double duv) (double (pos 1000000))
+duvFloat duv = div binary64 (double duv) (double (pos micro))
 
 -- the two floats of an accepted answer; those of a refused one are 0
 unfoldable pub floatAnswer : Answer → FloatAnswer

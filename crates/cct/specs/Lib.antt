@@ -1,6 +1,7 @@
 pub mod Answers
 pub mod FloatAnswers
 pub mod RefusalLaws
+pub mod FloatLaws
 pub mod Refinement
 pub mod RefinementProof
 pub mod Code

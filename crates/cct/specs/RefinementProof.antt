@@ -1,120 +1,80 @@
 -- Demand 3, proved of the definition `answer`: the checks do not depend on the steps allowed, every later state of the search refines an
 -- earlier one, and a class keeps every refinement of a range that it holds.
 use mathlib.Core.Path.{_≡_, refl, sym, ap, _∙_}
-use mathlib.Core.Bool.{Bool, true, false, cond}
 use mathlib.Core.List.{List}
-use Prim.Native.Nat.{ℕ, _+_, _-_, _≤_}
+use Prim.Native.Nat.{ℕ, _≤_}
 use native.Mathlib.Omega.{arith}
-use lib.Dec.{eqb}
-use Rattle.arith.specs.TestLaws.{cond-both}
-use Rattle.refusal.specs.declared.Refusal.the-variants.{BadEdges}
 use Rattle.reading.specs.declared.Reading.{Reading}
 use Rattle.reading.specs.declared.Converted.{Converted}
-use Rattle.reading.specs.declared.Converted.the-variants as converted
 use Rattle.reading.specs.Convert.{convertReading, convertWhole}
-use Rattle.locus.specs.Locus.{distanceAt, entryDistance}
-use Rattle.locus.specs.Admission.{nearestEntry, limit, admission}
-use Rattle.locus.specs.AdmissionLaws.{nearest-range, admitted-near}
-use Rattle.locus.specs.declared.Admission.{Admission}
-use Rattle.locus.specs.declared.Admission.the-variants as admitted
+use Rattle.locus.specs.Locus.{distanceAt}
+use Rattle.locus.specs.Admission.{nearestEntry}
+use Rattle.locus.specs.AdmissionLaws.{nearest-range}
 use Rattle.search.specs.Golden.{stepsOf}
-use Rattle.search.specs.GoldenLaws.{steps-advance, steps-width, steps-same}
-use Rattle.classes.specs.Edges.{edgesValid}
+use Rattle.search.specs.GoldenLaws.{steps-advance, steps-width}
 use Rattle.classes.specs.EdgeLaws.{valid-rise}
 use Rattle.classes.specs.Classes.{noClass}
 use Rattle.classes.specs.ClassLaws.{class-kept}
-use Rattle.cct.specs.Answers.{Checked, refusedBy, passed, checkedAt, checkedPoint, checked, accepted, answered, answer}
+use Rattle.cct.specs.Answers.{accepted, answer}
 use Rattle.cct.specs.declared.Answer.{Answer}
-use Rattle.cct.specs.declared.FloatAnswer.{FloatAnswer}
 use Rattle.cct.specs.FloatAnswers.{floatAnswer}
+use Rattle.cct.specs.RefusalLaws.{Clear, Decided, refusal, clear, decided, condition-refused, clear-accepted}
 use Rattle.cct.specs.Refinement.{Accepted, Narrower, Refines, both-refused, both-accepted, Demand3}
 
--- what the checks have shown where they pass: the edges are valid, (u, v) is the point, and its nearest entry m is within the limit
-pub record Passed (es : List ℕ) (c : Converted) (u v m : ℕ) : Type 0 where
-  pub edges : edgesValid es ≡ true
-  pub point : c ≡ converted.Point u v
-  pub entry : m ≡ nearestEntry u v
-  pub near : entryDistance u v m ≤ limit
-
-at-entry : (es : List ℕ) (u v x y m : ℕ) → edgesValid es ≡ true → (k : Admission) → admission x y ≡ k → checkedAt x y k ≡ passed u v m → Passed es (converted.Point x y) u v m
-at-entry es u v x y m g (admitted.Near n d) a e =
-    let h = admitted-near x y n d a in
-    let i : n ≡ m = cc in
-    let j : x ≡ u = cc in
-    let l : y ≡ v = cc in
-    let f : entryDistance x y n ≡ entryDistance u v m = cc in
-    record { edges = g; point = cc; entry = rw (← i, ← j, ← l) (h .entry); near = omega (arith, h .distance, h .within) }
-at-entry es u v x y m g (admitted.Refused r) a e = let z : _≡_ {A = ℕ} 0 1 = cc in absurd (omega arith)
-
--- where the checks pass, these are the edges, the point and the entry
-pub checked-passed : (es : List ℕ) (c : Converted) (u v m : ℕ) → checked es c ≡ passed u v m → Passed es c u v m
-unfolding checked checkedPoint
-checked-passed es c u v m = go (edgesValid es) refl c
-  where
-    go : (b : Bool) → edgesValid es ≡ b → (k : Converted) → cond b (checkedPoint k) (refusedBy BadEdges) ≡ passed u v m → Passed es k u v m
-    go true g (converted.Point x y) e = at-entry es u v x y m g (admission x y) refl e
-    go true g (converted.Refused r) e = let z : _≡_ {A = ℕ} 0 1 = cc in absurd (omega arith)
-    go false g k e = let z : _≡_ {A = ℕ} 0 1 = cc in absurd (omega arith)
-
 -- the accepted answers to one reading
-module _ (es : List ℕ) (c : Converted) (u v m : ℕ) (p : Passed es c u v m) where
-  in-range : (1 ≤ m) × (m ≤ 24)
-  in-range = rw (p .entry) (nearest-range u v)
-
-  is-accepted : (n : ℕ) → Accepted u v n (accepted es n u v m)
+module _ (es : List ℕ) (c : Converted) (u v : ℕ) (k : Clear es c u v) where
+  pub is-accepted : (n : ℕ) → Accepted u v n (answer es c n)
   unfolding accepted
   is-accepted n =
-      let r = in-range in
-      record { number = refl; count = refl; width = rw (← p .entry) (steps-width (distanceAt u v) m (r .0) (r .1) n) }
+      let r = nearest-range u v in
+      rw (clear-accepted es c u v k n) (record { number = refl; count = refl; width = steps-width (distanceAt u v) (nearestEntry u v) (r .0) (r .1) n })
 
-  narrows : (n₁ n₂ : ℕ) → n₁ ≤ n₂ → Narrower u v (accepted es n₁ u v m) (accepted es n₂ u v m)
+  pub narrows : (n₁ n₂ : ℕ) → n₁ ≤ n₂ → Narrower u v (answer es c n₁) (answer es c n₂)
   unfolding accepted
   narrows n₁ n₂ h =
-      let r = in-range in
+      let m : ℕ = nearestEntry u v in
+      let r = nearest-range u v in
       let s = steps-advance (distanceAt u v) m (r .0) (r .1) h in
       let w = steps-width (distanceAt u v) m (r .0) (r .1) n₂ in
-      record {
+      rw (clear-accepted es c u v k n₁, clear-accepted es c u v k n₂)
+      (record {
         low = s .low;
         high = s .high;
         nearer = s .nearer;
-        class-kept = λ named. class-kept es (valid-rise es (p .edges)) (s .low) (omega arith) (s .high) (s .best) named;
-      }
+        class-kept = λ named. class-kept es (valid-rise es (k .at .edges)) (s .low) (omega arith) (s .high) (s .best) named;
+      })
 
--- an accepted answer sees only how many steps are counted
-settled-at : (es : List ℕ) (n₁ n₂ u v m : ℕ) → stepsOf n₁ ≡ stepsOf n₂ → accepted es n₁ u v m ≡ accepted es n₂ u v m
-unfolding accepted
-settled-at es n₁ n₂ u v m e = rw e refl
+  -- an accepted answer sees only how many steps are counted
+  counted : (n₁ n₂ : ℕ) → stepsOf n₁ ≡ stepsOf n₂ → answer es c n₁ ≡ answer es c n₂
+  unfolding accepted
+  counted n₁ n₂ e = rw (clear-accepted es c u v k n₁, clear-accepted es c u v k n₂, e) refl
 
 -- the same refusal, or both accepted and the second refines the first
 refined : (es : List ℕ) (c : Converted) (n₁ n₂ : ℕ) → n₁ ≤ n₂ → Refines c n₁ n₂ (answer es c n₁) (answer es c n₂)
-unfolding answer
-refined es c n₁ n₂ h = go (checked es c) refl
+refined es c n₁ n₂ h = go (decided es c)
   where
-    go : (k : Checked) → checked es c ≡ k → Refines c n₁ n₂ (answered es n₁ k) (answered es n₂ k)
-    go (refusedBy r) e = both-refused r refl refl
-    go (passed u v m) e =
-        let p = checked-passed es c u v m e in
-        both-accepted u v (p .point) (is-accepted es c u v m p n₁) (is-accepted es c u v m p n₂) (narrows es c u v m p n₁ n₂ h)
+    go : Decided es c → Refines c n₁ n₂ (answer es c n₁) (answer es c n₂)
+    go (refusal r k) = both-refused r (condition-refused es c r k n₁) (condition-refused es c r k n₂)
+    go (clear u v k) = both-accepted u v (k .at .point) (is-accepted es c u v k n₁) (is-accepted es c u v k n₂) (narrows es c u v k n₁ n₂ h)
 
--- from 14 steps on, nothing changes
-settled : (es : List ℕ) (c : Converted) (n₁ n₂ : ℕ) → n₁ ≤ n₂ → 14 ≤ n₁ → answer es c n₁ ≡ answer es c n₂
-unfolding answer
-settled es c n₁ n₂ h l = go (checked es c)
+-- any two allowances of 14 or more give the same answer, the floats too
+pub settled-any : (es : List ℕ) (c : Converted) (a b : ℕ) → 14 ≤ a → 14 ≤ b → answer es c a ≡ answer es c b
+settled-any es c a b h l = go (decided es c)
   where
-    same : (u v m : ℕ) → accepted es n₁ u v m ≡ accepted es n₂ u v m
-    same u v m = settled-at es n₁ n₂ u v m (steps-same n₁ n₂ l h)
+    go : Decided es c → answer es c a ≡ answer es c b
+    go (refusal r k) = condition-refused es c r k a ∙ sym (condition-refused es c r k b)
+    go (clear u v k) = counted es c u v k a b (omega arith)
 
-    go : (k : Checked) → answered es n₁ k ≡ answered es n₂ k
-    go (refusedBy r) = refl
-    go (passed u v m) = same u v m
+pub settled-floats : (es : List ℕ) (c : Converted) (a b : ℕ) → 14 ≤ a → 14 ≤ b → floatAnswer (answer es c a) ≡ floatAnswer (answer es c b)
+settled-floats es c a b h l = ap floatAnswer (settled-any es c a b h l)
 
 -- demand 3, for the edges es and whatever any entry point's reading is converted to
 pub demand-3 : (es : List ℕ) (c : Converted) (n₁ n₂ : ℕ) → n₁ ≤ n₂ → Demand3 es c n₁ n₂
 demand-3 es c n₁ n₂ h =
     record {
       refines = refined es c n₁ n₂ h;
-      same = settled es c n₁ n₂ h;
-      same-floats = λ l. ap floatAnswer (settled es c n₁ n₂ h l);
+      same = λ l. settled-any es c n₁ n₂ l (omega arith);
+      same-floats = λ l. settled-floats es c n₁ n₂ l (omega arith);
     }
 
 -- for a reading of any of the four kinds
@@ -132,8 +92,3 @@ class-never-changes es c n₁ n₂ h named = go (refined es c n₁ n₂ h) named
     go : {a b : Answer} → Refines c n₁ n₂ a b → (a .class ≡ noClass → ⊥) → b .class ≡ a .class
     go (both-refused r e f) k = ap (λ (x : Answer). x .class) (f ∙ sym e)
     go (both-accepted u v p x y z) k = z .class-kept k
-
--- the whole-number part of a float answer is the answer it was made from
-pub float-whole : (a : Answer) → floatAnswer a .whole ≡ a
-unfolding floatAnswer
-float-whole a = cond-both (λ (f : FloatAnswer). f .whole ≡ a) (eqb (a .refusal) 0) refl refl

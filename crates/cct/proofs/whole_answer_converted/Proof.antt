@@ -3,7 +3,8 @@ use mathlib.Core.Path.{refl, sym, _∙_}
 use denote.Ref.{now}
 use borrow.Author.Tests.{not-true, not-false}
 use Rattle.classes.specs.EdgeLaws.{valid-short}
-use Rattle.cct.proofs.Assembly.{edges-refused, reading-refused, edges-passed}
+use Rattle.cct.specs.RefusalLaws.{bad-edges, not-converted, condition-refused}
+use Rattle.cct.proofs.Assembly.{edges-passed}
 use borrow.Author.Needs.{needs}
 use Rattle.cct.proofs.whole_answer_converted.Statement.{statement}
 use Rattle.cct.proofs.whole_answer_converted.Tie as tie
@@ -17,7 +18,7 @@ refused-answer-requires c κs = search needs
 returns : tie.Need-returns
 returns c =
     let a = c .before .before .before .before .args in
-    (c .refused-answer .ensures ∙ edges-refused (now (a .edges)) (a .converted) (a .max-steps) (sym (c .before .before .edges-valid .ensures .0) ∙ not-true _ (c .before .if1 .taken)), refl)
+    (c .refused-answer .ensures ∙ sym (condition-refused (now (a .edges)) (a .converted) _ (bad-edges (sym (c .before .before .edges-valid .ensures .0) ∙ not-true _ (c .before .if1 .taken))) (a .max-steps)), refl)
 
 enum-known-converted : tie.Need-enum-known-converted
 enum-known-converted c = search needs
@@ -34,7 +35,7 @@ answer-point-requires c κs = valid-short (now (c .before .before .before .befor
 returns-2 : tie.Need-returns-2
 returns-2 c =
     let a = c .before .before .before .before .before .before .before .args in
-    (c .refused-answer2 .ensures ∙ reading-refused (now (a .edges)) (a .converted) (a .max-steps) (sym (c .before .before .before .before .before .edges-valid .ensures .0) ∙ not-false _ (c .before .before .before .before .if1 .left)) (c .before .before .converted .given .1), refl)
+    (c .refused-answer2 .ensures ∙ sym (condition-refused (now (a .edges)) (a .converted) _ (not-converted _ (sym (c .before .before .before .before .before .edges-valid .ensures .0) ∙ not-false _ (c .before .before .before .before .if1 .left)) (c .before .before .converted .given .1)) (a .max-steps)), refl)
 
 returns-3 : tie.Need-returns-3
 returns-3 c =
