@@ -97,7 +97,3 @@ answer-exact es c n e =
 pub float-whole : (a : Answer) → floatAnswer a .whole ≡ a
 unfolding floatAnswer
 float-whole a = cond-both (λ (f : FloatAnswer). f .whole ≡ a) (eqb (a .refusal) 0) refl refl
-
--- the answer to a reading is the answer to what it is converted to
-pub float-converted : (es : List ℕ) (n : ℕ) {k c : Converted} {r : FloatAnswer} → r ≡ floatAnswer (answer es k n) → k ≡ c → r ≡ floatAnswer (answer es c n)
-float-converted es n e f = e ∙ ap (λ (x : Converted). floatAnswer (answer es x n)) f

@@ -1,4 +1,5 @@
 pub mod Answers
+pub mod AnswerLaws
 pub mod FloatAnswers
 pub mod RefusalLaws
 pub mod FloatLaws

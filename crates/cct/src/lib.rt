@@ -182,8 +182,7 @@ pub fn whole_answer_reading(reading: Reading, edges: &[u32], max_steps: u32) -> 
     ensures answers { λ r. ⌜ r ≡ answer (now (edges .entry)) (convertReading reading) «max_steps» ⌝ }
     ensures unchanged { λ r. ⌜ now (edges .exit) ≡ now (edges .entry) ⌝ }
 {
-    let converted = reading::convert(reading);
-    whole_answer_converted(converted, edges, max_steps)
+    whole_answer_converted(reading::convert(reading), edges, max_steps)
 }
 
 // The whole-number answer to u and v in micro.
@@ -191,8 +190,7 @@ pub fn whole_answer_uv(u: u32, v: u32, edges: &[u32], max_steps: u32) -> Answer
     ensures answers { λ r. ⌜ r ≡ answer (now (edges .entry)) (convertWhole u v) «max_steps» ⌝ }
     ensures unchanged { λ r. ⌜ now (edges .exit) ≡ now (edges .entry) ⌝ }
 {
-    let converted = reading::convert_whole(u, v);
-    whole_answer_converted(converted, edges, max_steps)
+    whole_answer_converted(reading::convert_whole(u, v), edges, max_steps)
 }
 
 // The answer to a reading of any of the four kinds.
@@ -200,8 +198,7 @@ pub fn answer_reading(reading: Reading, edges: &[u32], max_steps: u32) -> FloatA
     ensures answers { λ r. ⌜ r ≡ floatAnswer (answer (now (edges .entry)) (convertReading reading) «max_steps») ⌝ }
     ensures unchanged { λ r. ⌜ now (edges .exit) ≡ now (edges .entry) ⌝ }
 {
-    let converted = reading::convert(reading);
-    answer_converted(converted, edges, max_steps)
+    answer_converted(reading::convert(reading), edges, max_steps)
 }
 
 // The answer to u and v in micro.
@@ -209,6 +206,5 @@ pub fn answer_uv(u: u32, v: u32, edges: &[u32], max_steps: u32) -> FloatAnswer
     ensures answers { λ r. ⌜ r ≡ floatAnswer (answer (now (edges .entry)) (convertWhole u v) «max_steps») ⌝ }
     ensures unchanged { λ r. ⌜ now (edges .exit) ≡ now (edges .entry) ⌝ }
 {
-    let converted = reading::convert_whole(u, v);
-    answer_converted(converted, edges, max_steps)
+    answer_converted(reading::convert_whole(u, v), edges, max_steps)
 }

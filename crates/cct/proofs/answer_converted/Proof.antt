@@ -1,6 +1,7 @@
 -- `answer_converted` meets its contract: the float answer of the whole-number one.
-use mathlib.Core.Path.{refl}
+use mathlib.Core.Path.{refl, ap, _∙_}
 use borrow.Author.Needs.{needs}
+use Rattle.cct.specs.FloatAnswers.{floatAnswer}
 use Rattle.cct.proofs.answer_converted.Statement.{statement}
 use Rattle.cct.proofs.answer_converted.Tie as tie
 
@@ -11,7 +12,7 @@ float-answer-requires : tie.Need-float-answer-requires
 float-answer-requires c κs = search needs
 
 returns : tie.Need-returns
-returns c = (cc, refl)
+returns c = (c .float-answer .ensures ∙ ap floatAnswer (c .before .whole-answer-converted .ensures .0), refl)
 
 pub answer-converted-spec : {M : Type 1} → statement M
 answer-converted-spec =

@@ -1,8 +1,10 @@
 -- `whole_answer_converted` meets its contract: refusal 1 first, then what the conversion found, then the point.
-use mathlib.Core.Path.{refl, sym, _∙_}
+use mathlib.Core.Path.{_≡_, refl, sym, _∙_}
 use denote.Ref.{now}
 use borrow.Author.Tests.{not-true, not-false}
 use Rattle.classes.specs.EdgeLaws.{valid-short}
+use Rattle.refusal.specs.declared.Refusal.the-variants.{BadEdges}
+use Rattle.cct.specs.Answers.{refused}
 use Rattle.cct.specs.RefusalLaws.{bad-edges, not-converted, condition-refused}
 use Rattle.cct.proofs.Assembly.{edges-passed}
 use borrow.Author.Needs.{needs}
@@ -18,7 +20,8 @@ refused-answer-requires c κs = search needs
 returns : tie.Need-returns
 returns c =
     let a = c .before .before .before .before .args in
-    (c .refused-answer .ensures ∙ sym (condition-refused (now (a .edges)) (a .converted) _ (bad-edges (sym (c .before .before .edges-valid .ensures .0) ∙ not-true _ (c .before .if1 .taken))) (a .max-steps)), refl)
+    let bad : c .refused-answer .result ≡ refused BadEdges = c .refused-answer .ensures in
+    (bad ∙ sym (condition-refused (now (a .edges)) (a .converted) BadEdges (bad-edges (sym (c .before .before .edges-valid .ensures .0) ∙ not-true _ (c .before .if1 .taken))) (a .max-steps)), refl)
 
 enum-known-converted : tie.Need-enum-known-converted
 enum-known-converted c = search needs
