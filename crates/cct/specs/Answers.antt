@@ -19,17 +19,17 @@ use Rattle.classes.specs.Edges.{edgesValid}
 use Rattle.classes.specs.Classes.{classOf}
 use Rattle.cct.specs.declared.Answer.{Answer}
 
--- what the checks come to: a refusal, or the reading's u and v and its nearest entry m. No check depends on the steps allowed
+-- what the checks come to: a refusal, or the reading's u and v with its nearest entry m. No check sees the steps allowed
 pub data Checked : Type 0 where
   refusedBy : Refusal → Checked
   passed : ℕ → ℕ → ℕ → Checked
 
--- refusals 5, 6 and 7
+-- the last checks of the point (u, v): refusals 5, 6 and 7
 abbrev pub checkedAt : ℕ → ℕ → Admission → Checked
 checkedAt u v (admitted.Near m d) = passed u v m
 checkedAt u v (admitted.Refused r) = refusedBy r
 
--- refusals 2, 3 and 4, which the conversion finds, come before them
+-- before them stands a refusal 2, 3 or 4 that the conversion found
 unfoldable pub checkedPoint : Converted → Checked
 checkedPoint (converted.Point u v) = checkedAt u v (admission u v)
 checkedPoint (converted.Refused r) = refusedBy r
@@ -62,6 +62,7 @@ accepted es maxSteps u v m =
       class = classOf es (s .low) (s .high) (s .best);
     }
 
+-- the answer that follows from the checks
 abbrev pub answered : List ℕ → ℕ → Checked → Answer
 answered es maxSteps (refusedBy r) = refused r
 answered es maxSteps (passed u v m) = accepted es maxSteps u v m

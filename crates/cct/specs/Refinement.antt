@@ -33,8 +33,10 @@ pub data Refines (c : Converted) (n₁ n₂ : ℕ) (a b : Answer) : Type 0 where
   both-refused : (r : Refusal) → a ≡ refused r → b ≡ refused r → Refines c n₁ n₂ a b
   both-accepted : (u v : ℕ) → c ≡ Point u v → Accepted u v n₁ a → Accepted u v n₂ b → Narrower u v a b → Refines c n₁ n₂ a b
 
--- demand 3 for the edges es and a converted reading c
+-- demand 3 for the edges es and a converted reading c. `FloatLaws.float-whole` carries what it says of `answer` to the whole-number part of
+-- a float answer
 pub record Demand3 (es : List ℕ) (c : Converted) (n₁ n₂ : ℕ) : Type 0 where
   pub refines : Refines c n₁ n₂ (answer es c n₁) (answer es c n₂)
+  -- from 14 steps on nothing changes; `RefinementProof.settled-any` says so of any two allowances of 14 or more
   pub same : 14 ≤ n₁ → answer es c n₁ ≡ answer es c n₂
   pub same-floats : 14 ≤ n₁ → floatAnswer (answer es c n₁) ≡ floatAnswer (answer es c n₂)

@@ -20,7 +20,8 @@ pub record At (es : List ℕ) (c : Converted) (u v : ℕ) : Type 0 where
   pub edges : edgesValid es ≡ true
   pub point : c ≡ converted.Point u v
 
--- the condition of each refusal, with those before it not met; what the conversion refused comes between 1 and 5
+-- the condition of each refusal, with those before it not met. Between 1 and 5 comes what the conversion refused: 2, 3 or 4, whose
+-- conditions stand in `reading`
 pub data Condition (es : List ℕ) (c : Converted) : Refusal → Type 0 where
   bad-edges : edgesValid es ≡ false → Condition es c BadEdges
   not-converted : (r : Refusal) → edgesValid es ≡ true → c ≡ converted.Refused r → Condition es c r
@@ -44,11 +45,12 @@ pub record Clear (es : List ℕ) (c : Converted) (u v : ℕ) : Type 0 where
   pub not-hot : past u v 1 2 ≡ false
   pub not-cool : past u v 24 23 ≡ false
 
+-- it gets the accepted answer about its nearest entry
 pub clear-accepted : (es : List ℕ) (c : Converted) (u v : ℕ) → Clear es c u v → (n : ℕ) → answer es c n ≡ accepted es n u v (nearestEntry u v)
 unfolding answer checked checkedPoint admission
 clear-accepted es c u v k n = rw (k .at .edges, k .at .point, k .near, k .not-hot, k .not-cool) refl
 
--- a refusal with its condition, or a clear point
+-- either a refusal's condition is met, or none is
 pub data Decided (es : List ℕ) (c : Converted) : Type 0 where
   refusal : (r : Refusal) → Condition es c r → Decided es c
   clear : (u v : ℕ) → Clear es c u v → Decided es c
@@ -59,7 +61,7 @@ at-point es c u v a false true cool e f g = refusal TooHot (too-hot u v a e f)
 at-point es c u v a false false true e f g = refusal TooCool (too-cool u v a e f g)
 at-point es c u v a false false false e f g = clear u v (record { at = a; near = e; not-hot = f; not-cool = g })
 
--- one of them holds for every input
+-- one of the two holds, whatever the input
 pub decided : (es : List ℕ) (c : Converted) → Decided es c
 decided es c = go (edgesValid es) refl c refl
   where

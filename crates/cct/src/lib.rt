@@ -17,9 +17,6 @@ ghost use Rattle.cct.specs.Answers.{duvAt, refused, accepted, answered, 
 ghost use Rattle.cct.specs.Code.OnSpan.{OnSpan};
 ghost use Rattle.cct.specs.FloatAnswers.{floatAnswer};
 
-// The temperature at a place is this over the place, in kelvin.
-const KELVIN_PLACES: u32 = 103360000;
-
 // The micro in a unit of u, v and Duv.
 const MICRO: u32 = 1000000;
 
@@ -155,7 +152,7 @@ pub fn float_answer(answer: Answer) -> FloatAnswer
     let refusal = answer.refusal;
     if refusal == 0 {
         FloatAnswer {
-            kelvin: (KELVIN_PLACES as f64) / (answer.place as f64),
+            kelvin: (classes::KELVIN_PLACES as f64) / (answer.place as f64),
             duv: (answer.duv as f64) / (MICRO as f64),
             whole: answer,
         }

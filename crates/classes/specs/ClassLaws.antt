@@ -9,7 +9,7 @@ use native.Mathlib.Numerals.{add-one}
 use native.Mathlib.Omega.{arith}
 use lib.ListN.{length}
 use borrow.Author.Tests.{leb-true, le-leb, ltb-true, lt-ltb}
-use Rattle.arith.specs.TestLaws.{and-both, both-and, cond-both}
+use Rattle.arith.specs.TestLaws.{and-both, both-and}
 use Rattle.classes.specs.Edges.{edge, rising, edgesValid}
 use Rattle.classes.specs.EdgeLaws.{edge-le, valid-short}
 use Rattle.classes.specs.Classes.{kelvinPlaces, atLeast, below, holds, holdsAll, noClass, lastPassing, classCount, classOf}
@@ -79,11 +79,6 @@ passing-last f (suc n) k l e only = go (f n) refl (λ t. passing-last f n k t e 
     go true x r = only n (le-refl _) x
     go false x r = ⊎-elim (λ q. let z : f n ≡ true = rw (← q) e in let y : true ≡ false = sym z ∙ x in cc) r (eq-or-lt-of-le (le-of-suc-le-suc l))
 
-last-small : (f : ℕ → Bool) (n : ℕ) → n ≤ noClass → lastPassing f n ≤ noClass
-unfolding lastPassing
-last-small f zero h = le-refl _
-last-small f (suc n) h = cond-both (λ (k : ℕ). k ≤ noClass) (f n) (omega arith) (last-small f n (omega arith))
-
 module _ (es : List ℕ) (low high best : ℕ) where
   -- a class that is named holds all three places
   pub named-holds : (classOf es low high best ≡ noClass → ⊥) → InClass es low high best (classOf es low high best)
@@ -99,10 +94,6 @@ module _ (es : List ℕ) (low high best : ℕ) where
   holds-named up {j} h =
       passing-last (holdsAll es low high best) (classCount es) j (h .below) (both-and (both-and (h .holds-low) (h .holds-high)) (h .holds-best))
       (λ i l p. one-class es up low i j (omega arith) (omega (arith, h .below)) (and-both (holds es i low) (holds es i high) (and-both (holds es i low && holds es i high) (holds es i best) p .0) .0) (h .holds-low))
-
-  -- a class number fits a byte
-  pub class-small : classOf es low high best ≤ noClass
-  class-small = last-small (holdsAll es low high best) (classCount es) (omega arith)
 
 -- every class of valid edges is looked at
 pub valid-count : (es : List ℕ) → edgesValid es ≡ true → classCount es ≡ length es - 1

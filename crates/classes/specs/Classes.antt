@@ -35,7 +35,8 @@ unfoldable pub lastPassing : (ℕ → Bool) → ℕ → ℕ
 lastPassing f zero = noClass
 lastPassing f (suc n) = cond (f n) n (lastPassing f n)
 
--- how many classes are looked at: each has an edge that ends it, and a number below noClass. (Valid edges make at most 31 classes)
+-- how many classes are looked at: one less than there are edges, and each with a number below noClass. (`ClassLaws.valid-count`: of valid
+-- edges, all)
 abbrev pub classCount : List ℕ → ℕ
 classCount es = min noClass (length es - 1)
 

@@ -5,8 +5,8 @@ ghost use Prim.Native.Nat.{_-_, min, max};
 ghost use Rattle.classes.specs.Edges.{isEdge, edgesValid};
 ghost use Rattle.classes.specs.Classes.{noClass, atLeast, below, classOf};
 
-// The temperature at a place is this many kelvin over the place.
-const KELVIN_PLACES: u64 = 103360000;
+// The temperature at a place is this over the place, in kelvin.
+pub const KELVIN_PLACES: u64 = 103360000;
 
 // Given where no class is named.
 const NO_CLASS: u8 = 255;

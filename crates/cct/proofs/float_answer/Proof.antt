@@ -1,6 +1,7 @@
 -- `float_answer` meets its contract: one division each, or zeros.
 use mathlib.Core.Path.{refl}
 use borrow.Author.Tests.{eq-eqb, ne-eqb}
+use lib.Ieee.{inFloat}
 use mir.Syntax.{w32}
 use mir.Facts.{toZ-ofZ}
 use Rattle.cct.specs.FloatAnswers.{floatAnswer}
@@ -9,6 +10,7 @@ use Rattle.cct.proofs.float_answer.Statement.{statement}
 use Rattle.cct.proofs.float_answer.Tie as tie
 
 int-to-float-t5 : tie.Need-int-to-float-t5
+unfolding inFloat
 int-to-float-t5 c = search needs
 
 int-to-float-t6 : tie.Need-int-to-float-t6
