@@ -2,7 +2,7 @@
 use mathlib.Core.Path.{_≡_, refl}
 use mathlib.Core.Bool.{true, cond}
 use mathlib.Core.List.{List}
-use Prim.Native.Nat.{ℕ, zero, suc, _≤_, _<_}
+use Prim.Native.Nat.{ℕ, zero, suc, _<_}
 use native.Mathlib.Omega.{arith}
 use lib.Dec.{leb}
 use lib.IntN.{ℤ, pos, negℤ}
@@ -14,15 +14,16 @@ use Rattle.reading.specs.declared.Converted.{Converted}
 use Rattle.reading.specs.declared.Converted.the-variants as converted
 use Rattle.locus.specs.declared.Span.{Span}
 use Rattle.locus.specs.declared.Admission.the-variants as admitted
-use Rattle.locus.specs.Locus.{locusV, distanceAt, entryDistance}
+use Rattle.locus.specs.Locus.{locusV, distanceAt}
 use Rattle.locus.specs.LocusLaws.{entry-distance}
-use Rattle.locus.specs.Code.Pieces.{SpanAbout}
-use Rattle.locus.specs.Admission.{limit, admission}
-use Rattle.locus.specs.AdmissionLaws.{nearest-range, admitted-near}
+use Rattle.locus.specs.Pieces.{spanAbout}
+use Rattle.locus.specs.PieceLaws.{span-ends}
+use Rattle.locus.specs.Admission.{admission}
+use Rattle.locus.specs.AdmissionLaws.{admitted-near}
 use Rattle.search.specs.declared.Search.{Search}
 use Rattle.search.specs.Golden.{stepsOf}
 use Rattle.search.specs.GoldenLaws.{after-inside, after-near}
-use Rattle.search.specs.Code.Progress.{found, Begins}
+use Rattle.search.specs.Found.{found}
 use Rattle.classes.specs.Edges.{edgesValid}
 use Rattle.classes.specs.Classes.{classOf}
 use Rattle.cct.specs.Answers.{checkedPoint, checked, duvAt, refused, accepted, answered, answer}
@@ -38,41 +39,31 @@ pub duv-from : (u v place : ℕ) {y r d : ℕ} → y ≡ locusV place → r ≡ 
 unfolding duvAt
 duv-from u v place a b c = rw (a, b, c) refl
 
--- an admitted reading is what a search begins with
-pub near-range : (u v m d : ℕ) → admission u v ≡ admitted.Near m d → (1 ≤ m) × (m ≤ 24) × (d ≤ limit)
-near-range u v m d e =
-    let a = admitted-near u v m d e in
-    let r = nearest-range u v in
-    (omega arith, omega arith, a .within)
-
-pub near-begins : (u v m d : ℕ) {span : Span} → u ≤ 4000000 → v ≤ 4000000 → admission u v ≡ admitted.Near m d → SpanAbout m span → Begins u v span m d
-near-begins u v m d hu hv e about =
-    let r = near-range u v m d e in
-    record { u-small = hu; v-small = hv; first = r .0; last = r .1; about = about; away = admitted-near u v m d e .distance }
-
--- the best point of a search lies on its span, within the limit
-pub best-on : (u v m d n : ℕ) (span : Span) (s : Search) → Begins u v span m d → d ≤ limit → n ≤ 14 → s ≡ found (distanceAt u v) m n → OnSpan span u v (s .best) (s .distance)
+-- the best point of a search for an admitted reading lies on its span, within the limit
+pub best-on : (u v m d n : ℕ) (span : Span) (s : Search) → admission u v ≡ admitted.Near m d → span ≡ spanAbout m → s ≡ found (distanceAt u v) m n → OnSpan span u v (s .best) (s .distance)
 unfolding found
-best-on u v m d n span s b near h e =
-    let i = after-inside (distanceAt u v) m (b .first) (b .last) n h in
-    let f = after-near (distanceAt u v) m (b .first) (b .last) n h in
-    let g = entry-distance u v m (b .first) (b .last) in
+best-on u v m d n span s near about e =
+    let a = admitted-near u v m d near in
+    let ends = span-ends m span about in
+    let i = after-inside (distanceAt u v) m (a .first) (a .last) (stepsOf n) (omega arith) in
+    let f = after-near (distanceAt u v) m (a .first) (a .last) (stepsOf n) (omega arith) in
+    let g = entry-distance u v m (a .first) (a .last) in
     rw e
     (record {
-      follows = b .about .follows;
-      low = omega (arith, b .about .from);
-      high = omega (arith, b .about .to);
+      about = record { entry = m; first = a .first; last = a .last; is = about };
+      low = omega arith;
+      high = omega arith;
       away = refl;
-      small = omega (arith, b .away);
+      small = omega arith;
     })
 
 -- the accepted answer from its parts
 pub accepted-from :
-    (es : List ℕ) (u v m n : ℕ) (s : Search) (duv : ℤ) (steps class : ℕ) → s ≡ found (distanceAt u v) m steps → steps ≡ stepsOf n
+    (es : List ℕ) (u v m n : ℕ) (s : Search) (duv : ℤ) (class : ℕ) → s ≡ found (distanceAt u v) m n
     → duv ≡ duvAt u v (s .best) → class ≡ classOf es (s .low) (s .high) (s .best)
-    → record { place = s .best; low = s .low; high = s .high; duv = duv; refusal = 0; steps = steps; class = class } ≡ accepted es n u v m
+    → record { place = s .best; low = s .low; high = s .high; duv = duv; refusal = 0; steps = s .steps; class = class } ≡ accepted es n u v m
 unfolding found accepted
-accepted-from es u v m n s duv steps class e f g h = rw (g, h, e, f) refl
+accepted-from es u v m n s duv class e g h = rw (g, h, e) refl
 
 -- the answer by its checks
 pub point-refused : (es : List ℕ) (u v n : ℕ) {r : Refusal} → admission u v ≡ admitted.Refused r → refused r ≡ answered es n (checkedPoint (converted.Point u v))

@@ -11,17 +11,14 @@ ghost use lib.Dec.{leb};
 ghost use lib.IntN.{pos, negℤ};
 ghost use lib.ListN.{length};
 ghost use Rattle.reading.specs.Convert.{convertReading, convertWhole};
-ghost use Rattle.locus.specs.Admission.{limit};
-ghost use Rattle.search.specs.Code.Progress.{Begins};
+ghost use Rattle.locus.specs.Admission.{admission};
+ghost use Rattle.locus.specs.Pieces.{spanAbout};
 ghost use Rattle.cct.specs.Answers.{duvAt, refused, accepted, answered, checkedPoint, answer};
 ghost use Rattle.cct.specs.Code.OnSpan.{OnSpan};
 ghost use Rattle.cct.specs.FloatAnswers.{floatAnswer};
 
 // The micro in a unit of u, v and Duv.
 const MICRO: u32 = 1000000;
-
-// A point with a coordinate over this is too far from every entry.
-const FAR_OUT: u32 = 4000000;
 
 // The whole-number answer. A refused one has its number and zeros in every other field.
 #[repr(C)]
@@ -75,10 +72,9 @@ fn duv_on(span: Span, u: u32, v: u32, place: u32, distance: u64) -> i32
     requires { ⌜ OnSpan span u v place distance ⌝ }
     ensures { λ r. ⌜ r ≡ duvAt u v place ⌝ }
 {
-    let piece = locus::piece_at(span, place);
-    let locus_v = locus::v_on(piece, place);
+    let point = locus::point_on(span, place);
     let root = arith::integer_root(distance);
-    signed_by(locus_v, v, root)
+    signed_by(point.v, v, root)
 }
 
 // The answer to a reading whose nearest entry is known: the search, Duv and the class.
@@ -91,11 +87,10 @@ fn accepted_answer(
     edges: &[u32],
     max_steps: u32,
 ) -> Answer
-    requires { ⌜ Begins u v span entry distance × (distance ≤ limit) × (length (now edges) ≤ 32) ⌝ }
+    requires { ⌜ (admission u v ≡ Admission.Near entry distance) × (span ≡ spanAbout entry) × (length (now edges) ≤ 32) ⌝ }
     ensures { λ r. ⌜ r ≡ accepted (now (edges .entry)) «max_steps» u v entry ⌝ }
 {
-    let steps = search::steps_for(max_steps);
-    let found = search::run(span, u, v, entry, distance, steps);
+    let found = search::run(span, u, v, entry, distance, max_steps);
     let duv = duv_on(span, u, v, found.best, found.distance);
     let class = classes::class_of(edges, found.low, found.high, found.best);
     Answer {
@@ -104,7 +99,7 @@ fn accepted_answer(
         high: found.high,
         duv: duv,
         refusal: 0,
-        steps: steps as u8,
+        steps: found.steps as u8,
         class: class,
     }
 }
@@ -114,12 +109,6 @@ fn answer_point(u: u32, v: u32, edges: &[u32], max_steps: u32) -> Answer
     requires { ⌜ length (now edges) ≤ 32 ⌝ }
     ensures { λ r. ⌜ r ≡ answered (now (edges .entry)) «max_steps» (checkedPoint (Converted.Point u v)) ⌝ }
 {
-    if FAR_OUT < u {
-        return refused_answer(Refusal::TooFar);
-    }
-    if FAR_OUT < v {
-        return refused_answer(Refusal::TooFar);
-    }
     let us = locus::table_u();
     let vs = locus::table_v();
     match locus::admit(&us, &vs, u, v) {

@@ -9,14 +9,14 @@ use borrow.Author.Tests.{ltb-true, ltb-false}
 use mir.Syntax.{w64}
 use mir.Val.{SFits, toZ, ofZ}
 use mir.Facts.{toZ-pos, toZ-ofZ}
-use Rattle.locus.specs.Locus.{difference}
+use Rattle.locus.specs.Locus.{farOut, difference}
 use Rattle.locus.specs.LocusLaws.{square-small}
 
 -- a signed difference fits, and its square is that of the difference without its sign
 abbrev Squares : ℕ → ℕ → ℤ → Type 0
 Squares x y z = SFits w64 z × (z *ℤ z ≡ pos (difference x y * difference x y))
 
-signed : (x y : ℕ) → x ≤ 4000000 → y ≤ 4000000 → Squares x y (pos x -ℤ pos y)
+signed : (x y : ℕ) → x ≤ farOut → y ≤ farOut → Squares x y (pos x -ℤ pos y)
 signed x zero hx hy = (record { sfits = omega arith }, ap (λ (k : ℕ). pos (k * k)) (omega arith))
 signed x (suc y) hx hy = go (ltb x (suc y)) refl
   where
@@ -24,7 +24,7 @@ signed x (suc y) hx hy = go (ltb x (suc y)) refl
     go true e = let l = ltb-true x (suc y) e in (record { sfits = omega arith }, ap (λ (k : ℕ). pos (k * k)) (omega arith))
     go false e = let l = ltb-false x (suc y) e in (record { sfits = omega arith }, ap (λ (k : ℕ). pos (k * k)) (omega arith))
 
-module _ (x y : ℕ) (hx : x ≤ 4000000) (hy : y ≤ 4000000) where
+module _ (x y : ℕ) (hx : x ≤ farOut) (hy : y ≤ farOut) where
   pub difference-fits : SFits w64 (toZ w64 x -ℤ toZ w64 y)
   difference-fits = rw (toZ-pos w64 {n = x} (omega arith), toZ-pos w64 {n = y} (omega arith)) (signed x y hx hy .0)
 

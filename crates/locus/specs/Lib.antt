@@ -1,9 +1,10 @@
 pub mod Stored
 pub mod Locus
 pub mod Admission
-pub mod EveryEntry
+pub mod Pieces
 pub mod StoredLaws
 pub mod LocusLaws
 pub mod AdmissionLaws
 pub mod BehindLaw
+pub mod PieceLaws
 pub mod Code

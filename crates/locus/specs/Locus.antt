@@ -1,19 +1,19 @@
 -- The locus at every place, and the distance of a reading from it (document 01, "The stored locus" and "The search").
 use Prim.Native.Nat.{ℕ, _+_, _-_, _*_, _/_, min}
 use Rattle.arith.specs.Rounding.{nearestQuotient}
-use Rattle.locus.specs.Stored.{entryU, entryV, entryPlace}
-use Rattle.locus.specs.declared.Point.{Point}
+use Rattle.locus.specs.Stored.{entryU, entryV, pieceLength, entryPlace}
+use Rattle.locus.specs.declared.Chromaticity.{Chromaticity}
 
 -- the piece that holds a place: piece i runs from entry i to entry i + 1, and the last place is the end of piece 23
 abbrev pub pieceOf : ℕ → ℕ
-pieceOf place = min 23 (place / 2584 - 1)
+pieceOf place = min 23 (place / pieceLength - 1)
 
 -- one coordinate of the locus, t places past entry i: straight from entry i to entry i + 1, rounded to nearest, halves up.
 -- The argument `entry` gives that coordinate of each entry
 unfoldable pub between : (ℕ → ℕ) → ℕ → ℕ → ℕ
-between entry i t = nearestQuotient (entry i * (2584 - t) + entry (i + 1) * t) 2584
+between entry i t = nearestQuotient (entry i * (pieceLength - t) + entry (i + 1) * t) pieceLength
 
--- one coordinate of the locus at a place from 5168 to 64600
+-- one coordinate of the locus at a place from the first to the last
 unfoldable pub locusAt : (ℕ → ℕ) → ℕ → ℕ
 locusAt entry place = between entry (pieceOf place) (place - entryPlace (pieceOf place))
 
@@ -24,8 +24,12 @@ locusU = locusAt entryU
 abbrev pub locusV : ℕ → ℕ
 locusV = locusAt entryV
 
-abbrev pub locusPoint : ℕ → Point
+abbrev pub locusPoint : ℕ → Chromaticity
 locusPoint place = record { u = locusU place; v = locusV place }
+
+-- a point with a coordinate over this is too far from every entry; sums and products of coordinates up to it fit 64 bits
+abbrev pub farOut : ℕ
+farOut = 4000000
 
 -- the difference of two numbers, without its sign
 abbrev pub difference : ℕ → ℕ → ℕ

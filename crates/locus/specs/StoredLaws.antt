@@ -8,10 +8,12 @@ use lib.Dec.{leb}
 use lib.ListN.{length, getD, take, length-take, List·getD-map}
 use lib.Seq.{getD-take}
 use borrow.Author.Tests.{leb-true}
+use Rattle.arith.specs.Units.{micro}
+use Rattle.arith.specs.Every.{every, everyEntry}
+use Rattle.arith.specs.EveryLaws.{every-at, every-entry}
 use Rattle.arith.specs.TestLaws.{and-both}
-use Rattle.locus.specs.Stored.{storedU, storedV, tableU, tableV, entryIn}
-use Rattle.locus.specs.Code.Pieces.{Rises}
-use Rattle.locus.specs.EveryEntry.{everyEntry, every-entry}
+use Rattle.locus.specs.Stored.{storedU, storedV, tableU, tableV, entryIn, pieceLength, entryPlace}
+use Rattle.locus.specs.Code.Lines.{Rises}
 
 -- an entry in micro is ten times its stored number
 pub entry-tenfold : (stored : List ℕ) (i : ℕ) → entryIn (map (λ x. 10 * x) stored) i ≡ 10 * getD stored (i - 1) 0
@@ -20,14 +22,14 @@ entry-tenfold stored i = List·getD-map (λ x. 10 * x) stored (i - 1) 0
 
 -- every coordinate is at most 1, and each piece rises slowly
 pub record Steady (table : List ℕ) : Type 0 where
-  pub small : (i : ℕ) → i ≤ 24 → entryIn table i ≤ 1000000
+  pub small : (i : ℕ) → i ≤ 24 → entryIn table i ≤ micro
   pub rises : (i : ℕ) → 1 ≤ i → i ≤ 23 → Rises i (entryIn table i) (entryIn table (i + 1))
 
 -- `Rises` as a test
 abbrev riseTest : ℕ → ℕ → ℕ → Bool
-riseTest i x y = leb x y && (leb (y - x) 10000 && leb ((y - x) * (2584 * (i + 1))) (2584 * x))
+riseTest i x y = leb x y && (leb (y - x) 10000 && leb ((y - x) * entryPlace i) (pieceLength * x))
 
-rise-tested : (i x y : ℕ) → riseTest i x y ≡ true → x ≤ 1000000 → Rises i x y
+rise-tested : (i x y : ℕ) → riseTest i x y ≡ true → x ≤ micro → Rises i x y
 rise-tested i x y t h =
     let a = and-both (leb x y) _ t in
     let b = and-both (leb (y - x) 10000) _ (a .1) in
@@ -37,13 +39,13 @@ rise-tested i x y t h =
 abbrev pieceTest : List ℕ → ℕ → ℕ → Bool
 pieceTest table k x = riseTest (k + 1) x (getD table (k + 1) 0)
 
-abbrev smallTest : ℕ → ℕ → Bool
-smallTest k x = leb x 1000000
+abbrev smallTest : ℕ → Bool
+smallTest x = leb x micro
 
-module _ (table : List ℕ) (count : length table ≡ 24) (all-small : everyEntry smallTest table ≡ true) (all-rise : everyEntry (pieceTest table) (take 23 table) ≡ true) where
-  small-at : (i : ℕ) → i ≤ 24 → entryIn table i ≤ 1000000
+module _ (table : List ℕ) (count : length table ≡ 24) (all-small : every smallTest table ≡ true) (all-rise : everyEntry (pieceTest table) (take 23 table) ≡ true) where
+  small-at : (i : ℕ) → i ≤ 24 → entryIn table i ≤ micro
   unfolding entryIn
-  small-at i h = leb-true _ _ (every-entry smallTest table 0 all-small (i - 1) (omega arith))
+  small-at i h = leb-true _ _ (every-at smallTest table 0 all-small (i - 1) (omega arith))
 
   rises-at : (i : ℕ) → 1 ≤ i → i ≤ 23 → Rises i (entryIn table i) (entryIn table (i + 1))
   unfolding entryIn

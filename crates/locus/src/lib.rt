@@ -4,16 +4,27 @@ mod tables;
 use refusal::Refusal;
 ghost use mathlib.Core.Path.{_≡_};
 ghost use Prim.Native.Nat.{_+_, _-_, _*_, _≤_, _<_};
-ghost use Rattle.locus.specs.Stored.{tableU, tableV, storedPoint, entryPlace, firstEntry, lastEntry};
-ghost use Rattle.locus.specs.Locus.{pieceOf, locusU, locusV, locusPoint, difference, squaredDistance, distanceAt};
-ghost use Rattle.locus.specs.Admission.{nearestOf, dot, behind, admission};
-ghost use Rattle.locus.specs.Code.Pieces.{Rises, lineThrough, lineAt, PieceFollows, SpanFollows, SpanAbout};
+ghost use Rattle.locus.specs.Stored.{tableU, tableV, storedPoint, firstPlace, lastPlace, firstEntry, lastEntry};
+ghost use Rattle.locus.specs.Locus.{pieceOf, locusPoint, farOut, difference, squaredDistance, distanceAt};
+ghost use Rattle.locus.specs.Admission.{dot, behind, admission};
+ghost use Rattle.locus.specs.Pieces.{lineThrough, lineAt, pieceFrom, spanAbout, pieceAt, AboutAnEntry};
+ghost use Rattle.locus.specs.Code.Lines.{Rises, LineFits};
+ghost use Rattle.locus.specs.Code.NearestSoFar.{nearestOf};
+
+// The places from one entry to the next. One place is document 01's "notch".
+pub const PIECE_LENGTH: u32 = 2584;
+
+// Half of a piece's length.
+const HALF_PIECE: u32 = 1292;
+
+// A point with a coordinate over this is too far from every entry.
+const FAR_OUT: u32 = 4000000;
 
 // A reading is too far from the locus where its squared distance to the nearest entry exceeds this (refusal 5).
 const LIMIT: u64 = 900000000;
 
 // A point of the CIE 1960 diagram. One unit of u and v is document 01's "micro", 0.000001.
-pub struct Point {
+pub struct Chromaticity {
     pub u: u32,
     pub v: u32,
 }
@@ -39,11 +50,11 @@ pub fn table_v() -> [u32; 24]
 }
 
 // Entry i, from 1 to 24.
-fn stored_point(us: &[u32; 24], vs: &[u32; 24], i: usize) -> Point
+fn stored_point(us: &[u32; 24], vs: &[u32; 24], i: usize) -> Chromaticity
     requires { ⌜ (now us ≡ tableU) × (now vs ≡ tableV) × (1 ≤ i) × (i ≤ 24) ⌝ }
     ensures { λ r. ⌜ r ≡ storedPoint i ⌝ }
 {
-    Point {
+    Chromaticity {
         u: us[i - 1],
         v: vs[i - 1],
     }
@@ -61,30 +72,30 @@ pub struct Piece {
     pub v: Line,
 }
 
-// The line from x at entry i to y at entry i + 1. Half of 2584 is added in c, so that the division rounds to nearest, halves up.
+// The line from x at entry i to y at entry i + 1. Half a piece is added in c, so that the division rounds to nearest, halves up.
 fn line_through(x: u32, y: u32, i: u32) -> Line
     requires { ⌜ (i ≤ 23) × Rises i x y ⌝ }
     ensures { λ r. ⌜ r ≡ lineThrough i x y ⌝ }
 {
     let d = y - x;
     Line {
-        c: 2584 * x + 1292 - d * (2584 * (i + 1)),
+        c: PIECE_LENGTH * x + HALF_PIECE - d * (PIECE_LENGTH * (i + 1)),
         d: d,
     }
 }
 
 // The coordinate that a line gives at a place.
 fn on_line(line: Line, place: u32) -> u32
-    requires { ⌜ (line .c ≤ 3000000000) × (line .d ≤ 10000) × (place ≤ 64600) ⌝ }
+    requires { ⌜ LineFits line × (place ≤ lastPlace) ⌝ }
     ensures { λ r. ⌜ r ≡ lineAt line place ⌝ }
 {
-    (line.c + line.d * place) / 2584
+    (line.c + line.d * place) / PIECE_LENGTH
 }
 
 // Piece i, from entry i to entry i + 1.
 fn piece_from(us: &[u32; 24], vs: &[u32; 24], i: u32) -> Piece
     requires { ⌜ (now us ≡ tableU) × (now vs ≡ tableV) × (1 ≤ i) × (i ≤ 23) ⌝ }
-    ensures { λ r. ⌜ PieceFollows r (entryPlace i) (entryPlace (i + 1)) ⌝ }
+    ensures { λ r. ⌜ r ≡ pieceFrom i ⌝ }
 {
     let a = stored_point(us, vs, i as usize);
     let b = stored_point(us, vs, i as usize + 1);
@@ -93,45 +104,9 @@ fn piece_from(us: &[u32; 24], vs: &[u32; 24], i: u32) -> Piece
     Piece { u: u, v: v }
 }
 
-// u of the locus at a place of a piece.
-fn u_on(piece: Piece, place: u32) -> u32
-    requires { ⌜ PieceFollows piece place place × (place ≤ 64600) ⌝ }
-    ensures { λ r. ⌜ r ≡ locusU place ⌝ }
-{
-    on_line(piece.u, place)
-}
-
-// v of the locus at a place of a piece.
-pub fn v_on(piece: Piece, place: u32) -> u32
-    requires { ⌜ PieceFollows piece place place × (place ≤ 64600) ⌝ }
-    ensures { λ r. ⌜ r ≡ locusV place ⌝ }
-{
-    on_line(piece.v, place)
-}
-
-// The piece that holds a place; the last place is the end of the last piece.
-fn piece_of(place: u32) -> u32
-    requires { ⌜ (5168 ≤ place) × (place ≤ 64600) ⌝ }
-    ensures { λ r. ⌜ r ≡ pieceOf place ⌝ }
-{
-    let i = place / 2584 - 1;
-    if i < 23 { i } else { 23 }
-}
-
-// The point of the locus at a place.
-pub fn point_at(us: &[u32; 24], vs: &[u32; 24], place: u32) -> Point
-    requires { ⌜ (now us ≡ tableU) × (now vs ≡ tableV) × (5168 ≤ place) × (place ≤ 64600) ⌝ }
-    ensures { λ r. ⌜ r ≡ locusPoint place ⌝ }
-{
-    let piece = piece_from(us, vs, piece_of(place));
-    let u = u_on(piece, place);
-    let v = v_on(piece, place);
-    Point { u: u, v: v }
-}
-
 // The square of the difference of two numbers.
 fn squared_difference(x: u32, y: u32) -> u64
-    requires { ⌜ (x ≤ 4000000) × (y ≤ 4000000) ⌝ }
+    requires { ⌜ (x ≤ farOut) × (y ≤ farOut) ⌝ }
     ensures { λ r. ⌜ r ≡ difference x y * difference x y ⌝ }
 {
     let d = x as i64 - y as i64;
@@ -139,8 +114,8 @@ fn squared_difference(x: u32, y: u32) -> u64
 }
 
 // The squared distance of the points (u, v) and (x, y).
-pub fn squared_distance(u: u32, v: u32, x: u32, y: u32) -> u64
-    requires { ⌜ (u ≤ 4000000) × (v ≤ 4000000) × (x ≤ 4000000) × (y ≤ 4000000) ⌝ }
+fn squared_distance(u: u32, v: u32, x: u32, y: u32) -> u64
+    requires { ⌜ (u ≤ farOut) × (v ≤ farOut) × (x ≤ farOut) × (y ≤ farOut) ⌝ }
     ensures { λ r. ⌜ r ≡ squaredDistance u v x y ⌝ }
 {
     squared_difference(u, x) + squared_difference(v, y)
@@ -154,7 +129,7 @@ struct Nearest {
 
 // The nearest of the first n + 2 entries, from that of the first n + 1.
 fn with_next(us: &[u32; 24], vs: &[u32; 24], u: u32, v: u32, n: usize, best: Nearest) -> Nearest
-    requires { ⌜ (now us ≡ tableU) × (now vs ≡ tableV) × (u ≤ 4000000) × (v ≤ 4000000) × (n < 23) × (best ≡ nearestOf u v n) ⌝ }
+    requires { ⌜ (now us ≡ tableU) × (now vs ≡ tableV) × (u ≤ farOut) × (v ≤ farOut) × (n < 23) × (best ≡ nearestOf u v n) ⌝ }
     ensures { λ r. ⌜ r ≡ nearestOf u v (n + 1) ⌝ }
 {
     let next = stored_point(us, vs, n + 2);
@@ -169,9 +144,9 @@ fn with_next(us: &[u32; 24], vs: &[u32; 24], u: u32, v: u32, n: usize, best: Nea
     }
 }
 
-// The nearest entry; of equals, the lowest. Two entries to a turn, which halves the loop's own cost.
+// The nearest entry; of equals, the lowest. Each turn of the loop looks at two entries.
 fn nearest_entry(us: &[u32; 24], vs: &[u32; 24], u: u32, v: u32) -> Nearest
-    requires { ⌜ (now us ≡ tableU) × (now vs ≡ tableV) × (u ≤ 4000000) × (v ≤ 4000000) ⌝ }
+    requires { ⌜ (now us ≡ tableU) × (now vs ≡ tableV) × (u ≤ farOut) × (v ≤ farOut) ⌝ }
     ensures { λ r. ⌜ r ≡ nearestOf u v 23 ⌝ }
 {
     let first = stored_point(us, vs, 1);
@@ -191,7 +166,7 @@ fn nearest_entry(us: &[u32; 24], vs: &[u32; 24], u: u32, v: u32) -> Nearest
 
 // The sum of the products of the u parts and the v parts.
 fn dot_product(a: u32, b: u32, x: u32, y: u32) -> u64
-    requires { ⌜ (a ≤ 4000000) × (b ≤ 4000000) × (x ≤ 4000000) × (y ≤ 4000000) ⌝ }
+    requires { ⌜ (a ≤ farOut) × (b ≤ farOut) × (x ≤ farOut) × (y ≤ farOut) ⌝ }
     ensures { λ r. ⌜ r ≡ dot a b x y ⌝ }
 {
     a as u64 * x as u64 + b as u64 * y as u64
@@ -199,7 +174,7 @@ fn dot_product(a: u32, b: u32, x: u32, y: u32) -> u64
 
 // Whether the reading lies behind entry e as seen towards entry f.
 fn is_behind(us: &[u32; 24], vs: &[u32; 24], u: u32, v: u32, e: usize, f: usize) -> bool
-    requires { ⌜ (now us ≡ tableU) × (now vs ≡ tableV) × (u ≤ 4000000) × (v ≤ 4000000) × (1 ≤ e) × (e ≤ 24) × (1 ≤ f) × (f ≤ 24) ⌝ }
+    requires { ⌜ (now us ≡ tableU) × (now vs ≡ tableV) × (u ≤ farOut) × (v ≤ farOut) × (1 ≤ e) × (e ≤ 24) × (1 ≤ f) × (f ≤ 24) ⌝ }
     ensures { λ r. ⌜ r ≡ behind u v e f ⌝ }
 {
     let a = stored_point(us, vs, e);
@@ -208,9 +183,9 @@ fn is_behind(us: &[u32; 24], vs: &[u32; 24], u: u32, v: u32, e: usize, f: usize)
         < dot_product(u, v, a.u, a.v) + dot_product(a.u, a.v, b.u, b.v)
 }
 
-// The nearest entry to a reading and its squared distance, or why the reading is refused.
-pub fn admit(us: &[u32; 24], vs: &[u32; 24], u: u32, v: u32) -> Admission
-    requires { ⌜ (now us ≡ tableU) × (now vs ≡ tableV) × (u ≤ 4000000) × (v ≤ 4000000) ⌝ }
+// The admission of a reading that is not far out.
+fn admit_near(us: &[u32; 24], vs: &[u32; 24], u: u32, v: u32) -> Admission
+    requires { ⌜ (now us ≡ tableU) × (now vs ≡ tableV) × (u ≤ farOut) × (v ≤ farOut) ⌝ }
     ensures { λ r. ⌜ r ≡ admission u v ⌝ }
 {
     let nearest = nearest_entry(us, vs, u, v);
@@ -226,6 +201,21 @@ pub fn admit(us: &[u32; 24], vs: &[u32; 24], u: u32, v: u32) -> Admission
         return Admission::Refused(Refusal::TooCool);
     }
     Admission::Near(m, d)
+}
+
+// The nearest entry to a reading and its squared distance, or why the reading is refused.
+pub fn admit(us: &[u32; 24], vs: &[u32; 24], u: u32, v: u32) -> Admission
+    requires { ⌜ (now us ≡ tableU) × (now vs ≡ tableV) ⌝ }
+    ensures answers { λ r. ⌜ r ≡ admission u v ⌝ }
+    ensures unchanged { λ r. ⌜ (now (us .exit) ≡ now (us .entry)) × (now (vs .exit) ≡ now (vs .entry)) ⌝ }
+{
+    if FAR_OUT < u {
+        return Admission::Refused(Refusal::TooFar);
+    }
+    if FAR_OUT < v {
+        return Admission::Refused(Refusal::TooFar);
+    }
+    admit_near(us, vs, u, v)
 }
 
 // The two pieces about an entry: left from the place `from` to `mid`, right from there to `to`.
@@ -256,25 +246,25 @@ fn last_entry(m: u32) -> u32
 // The pieces about entry m. About the first and the last entry, the one piece stands twice.
 pub fn span_about(us: &[u32; 24], vs: &[u32; 24], m: u32) -> Span
     requires { ⌜ (now us ≡ tableU) × (now vs ≡ tableV) × (1 ≤ m) × (m ≤ 24) ⌝ }
-    ensures { λ r. ⌜ SpanAbout m r ⌝ }
+    ensures answers { λ r. ⌜ r ≡ spanAbout m ⌝ }
+    ensures unchanged { λ r. ⌜ (now (us .exit) ≡ now (us .entry)) × (now (vs .exit) ≡ now (vs .entry)) ⌝ }
 {
     let a = first_entry(m);
     let b = last_entry(m) - 1;
     let left = piece_from(us, vs, a);
     let right = piece_from(us, vs, b);
     Span {
-        from: 2584 * (a + 1),
-        mid: 2584 * (a + 2),
-        to: 2584 * (b + 2),
+        from: PIECE_LENGTH * (a + 1),
+        mid: PIECE_LENGTH * (a + 2),
+        to: PIECE_LENGTH * (b + 2),
         left: left,
         right: right,
     }
 }
 
 // The piece of a span that holds a place.
-pub fn piece_at(span: Span, place: u32) -> Piece
-    requires { ⌜ SpanFollows span × (span .from ≤ place) × (place ≤ span .to) ⌝ }
-    ensures { λ r. ⌜ PieceFollows r place place ⌝ }
+fn piece_at(span: Span, place: u32) -> Piece
+    ensures { λ r. ⌜ r ≡ pieceAt span place ⌝ }
 {
     if place < span.mid {
         span.left
@@ -283,13 +273,41 @@ pub fn piece_at(span: Span, place: u32) -> Piece
     }
 }
 
-// The squared distance of the reading (u, v) from the locus at a place of a span.
-pub fn distance_on(span: Span, u: u32, v: u32, place: u32) -> u64
-    requires { ⌜ SpanFollows span × (u ≤ 4000000) × (v ≤ 4000000) × (span .from ≤ place) × (place ≤ span .to) ⌝ }
-    ensures { λ r. ⌜ r ≡ distanceAt u v place ⌝ }
+// The point of the locus at a place of a span.
+pub fn point_on(span: Span, place: u32) -> Chromaticity
+    requires { ⌜ AboutAnEntry span × (span .from ≤ place) × (place ≤ span .to) ⌝ }
+    ensures { λ r. ⌜ r ≡ locusPoint place ⌝ }
 {
     let piece = piece_at(span, place);
-    let x = u_on(piece, place);
-    let y = v_on(piece, place);
-    squared_distance(u, v, x, y)
+    let u = on_line(piece.u, place);
+    let v = on_line(piece.v, place);
+    Chromaticity { u: u, v: v }
+}
+
+// The squared distance of the reading (u, v) from the locus at a place of a span.
+pub fn distance_on(span: Span, u: u32, v: u32, place: u32) -> u64
+    requires { ⌜ AboutAnEntry span × (u ≤ farOut) × (v ≤ farOut) × (span .from ≤ place) × (place ≤ span .to) ⌝ }
+    ensures { λ r. ⌜ r ≡ distanceAt u v place ⌝ }
+{
+    let point = point_on(span, place);
+    squared_distance(u, v, point.u, point.v)
+}
+
+// The piece that holds a place; the last place is the end of the last piece.
+fn piece_of(place: u32) -> u32
+    requires { ⌜ (firstPlace ≤ place) × (place ≤ lastPlace) ⌝ }
+    ensures { λ r. ⌜ r ≡ pieceOf place ⌝ }
+{
+    let i = place / PIECE_LENGTH - 1;
+    if i < 23 { i } else { 23 }
+}
+
+// The point of the locus at a place.
+pub fn point_at(us: &[u32; 24], vs: &[u32; 24], place: u32) -> Chromaticity
+    requires { ⌜ (now us ≡ tableU) × (now vs ≡ tableV) × (firstPlace ≤ place) × (place ≤ lastPlace) ⌝ }
+    ensures answers { λ r. ⌜ r ≡ locusPoint place ⌝ }
+    ensures unchanged { λ r. ⌜ (now (us .exit) ≡ now (us .entry)) × (now (vs .exit) ≡ now (vs .entry)) ⌝ }
+{
+    let span = span_about(us, vs, piece_of(place));
+    point_on(span, place)
 }

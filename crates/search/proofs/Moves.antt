@@ -4,11 +4,17 @@ use mathlib.Core.Bool.{Bool, true, false, cond}
 use Prim.Native.Nat.{ℕ, _+_, _-_, _*_, _≤_}
 use native.Mathlib.Omega.{arith}
 use lib.Dec.{ltb}
-use Rattle.locus.specs.Stored.{entryPlace, firstEntry}
+use Rattle.locus.specs.Stored.{entryPlace, firstEntry, lastEntry}
+use Rattle.locus.specs.declared.Admission.the-variants.{Near}
+use Rattle.locus.specs.Admission.{admission}
+use Rattle.locus.specs.AdmissionLaws.{admitted-near}
+use Rattle.locus.specs.Pieces.{spanAbout}
+use Rattle.locus.specs.PieceLaws.{span-ends, span-range}
 use Rattle.locus.specs.declared.Span.{Span}
-use Rattle.search.specs.Golden.{pieces, fibonacci, innerLow, innerHigh, State, nearer, start, step, after}
+use Rattle.search.specs.Golden.{pieces, fibonacci, innerLow, innerHigh, State, nearer, start, step, after, mostSteps, stepsOf}
+use Rattle.search.specs.Found.{found}
 use Rattle.search.specs.GoldenLaws.{lengths, after-next, after-inside}
-use Rattle.search.specs.Code.Progress.{found, Begins, stateOf, Tracks, Lies, moved}
+use Rattle.search.specs.Code.Progress.{Begins, stateOf, Tracks, Lies, moved}
 use Rattle.search.specs.declared.Progress.{Progress}
 
 same-state : {s t : State} → s .low ≡ t .low → s .high ≡ t .high → s .best ≡ t .best → s ≡ t
@@ -26,7 +32,7 @@ kept-least : (d : ℕ → ℕ) (place : ℕ) {best least : ℕ} → least ≡ d 
 kept-least d place {best} y = rw y (chosen d (ltb (d place) (d best)) place best)
 
 -- a step
-module _ (d : ℕ → ℕ) (m j : ℕ) (p : Progress) (h : j ≤ 14) (k : Tracks d m j p) where
+module _ (d : ℕ → ℕ) (m j : ℕ) (p : Progress) (h : j ≤ mostSteps) (k : Tracks d m j p) where
   -- rule 4's two ways
   abbrev leftState : State
   leftState = record { low = p .low; high = innerHigh (pieces m) j (p .low); best = nearer d (innerLow (pieces m) (j + 1) (p .low)) (p .best) }
@@ -77,20 +83,27 @@ unfolding moved
 moves true d p el er elow eplace edistance eleft eright ebest eleast = cc
 moves false d p el er elow eplace edistance eleft eright ebest eleast = cc
 
+-- an admitted reading and the span about its entry are what a search begins with
+pub begins : (u v m distance : ℕ) (span : Span) → admission u v ≡ Near m distance → span ≡ spanAbout m → Begins u v span m distance
+begins u v m distance span near e =
+    let a = admitted-near u v m distance near in
+    let ends = span-ends m span e in
+    record { admitted = a; about = record { entry = m; first = a .first; last = a .last; is = e }; from = ends .0; to = ends .1 }
+
 -- where the bracket lies
-pub lies : (d : ℕ → ℕ) {u v m distance j : ℕ} {span : Span} {p : Progress} → Begins u v span m distance → j ≤ 14 → Tracks d m j p → Lies span p
+pub lies : (d : ℕ → ℕ) {u v m distance j : ℕ} {span : Span} {p : Progress} → Begins u v span m distance → j ≤ mostSteps → Tracks d m j p → Lies span p
 lies d {m = m} {j = j} {p = p} b h k =
-    let i = after-inside d m (b .first) (b .last) j h in
+    let i = after-inside d m (b .admitted .first) (b .admitted .last) j h in
     let low = ap (λ (s : State). s .low) (k .state) in
     let high = ap (λ (s : State). s .high) (k .state) in
-    record { follows = b .about .follows; low = omega arith; high = omega arith; lengths = omega (arith, lengths (pieces m) j h .low, k .long, k .short) }
+    record { about = b .about; on-locus = span-range (b .about) .1; low = omega arith; high = omega arith; lengths = omega (arith, lengths (pieces m) j h .low, k .long, k .short) }
 
--- the answer
-pub answers : (d : ℕ → ℕ) (m j : ℕ) (p : Progress) → Tracks d m j p → record { low = p .low; high = p .low + 2 * p .long + p .short; best = p .best; distance = p .least } ≡ found d m j
+-- the answer, once the steps are done
+pub answers : (d : ℕ → ℕ) (m maxSteps : ℕ) {steps : ℕ} (p : Progress) → steps ≡ stepsOf maxSteps → Tracks d m (stepsOf maxSteps) p → record { low = p .low; high = p .low + 2 * p .long + p .short; best = p .best; distance = p .least; steps = steps } ≡ found d m maxSteps
 unfolding found
-answers d m j p k =
-    let distance : p .least ≡ d (after d m j .best) = k .least ∙ ap (λ (s : State). d (s .best)) (k .state) in
-    λ i. record { low = k .state i .low; high = k .state i .high; best = k .state i .best; distance = distance i }
+answers d m maxSteps p e k =
+    let distance : p .least ≡ d (after d m (stepsOf maxSteps) .best) = k .least ∙ ap (λ (s : State). d (s .best)) (k .state) in
+    λ i. record { low = k .state i .low; high = k .state i .high; best = k .state i .best; distance = distance i; steps = e i }
 
 -- the start, by the numbers that the code computes
 pub begun : (d : ℕ → ℕ) (m : ℕ) (r : Progress) {a b distance best least : ℕ} → 1 ≤ m → m ≤ 24 → r .low ≡ entryPlace (firstEntry m) → r .long ≡ 987 * pieces m → r .short ≡ 610 * pieces m

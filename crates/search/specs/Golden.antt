@@ -58,6 +58,10 @@ unfoldable pub after : (ℕ → ℕ) → ℕ → ℕ → State
 after d m zero = start d m
 after d m (suc j) = step d (pieces m) j (after d m j)
 
+-- rule 5: the most steps
+abbrev pub mostSteps : ℕ
+mostSteps = 14
+
 -- rule 5: the number of steps, for document 01's allowance
 abbrev pub stepsOf : ℕ → ℕ
-stepsOf maxSteps = min maxSteps 14
+stepsOf maxSteps = min maxSteps mostSteps

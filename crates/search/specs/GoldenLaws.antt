@@ -1,4 +1,4 @@
--- Laws of the search, for any distance d: the width, that later states refine earlier ones, where the places lie, how far the best point is.
+-- Laws of the search, for any distance d: the width, that later states advance on earlier ones, where the places lie, how far the best point is.
 use mathlib.Core.Path.{_≡_, refl, ap, _∙_}
 use mathlib.Core.Bool.{Bool, true, false, cond}
 use mathlib.Core.Logic.{_⊎_, inl, inr, ⊎-elim}
@@ -9,8 +9,8 @@ use native.Mathlib.Omega.{arith}
 use lib.Dec.{ltb}
 use borrow.Author.Tests.{ltb-true}
 use Rattle.arith.specs.TestLaws.{cond-both}
-use Rattle.locus.specs.Stored.{entryPlace, firstEntry, lastEntry}
-use Rattle.search.specs.Golden.{pieces, fibonacci, width, innerLow, innerHigh, State, nearer, start, step, after, stepsOf}
+use Rattle.locus.specs.Stored.{entryPlace, firstPlace, lastPlace, firstEntry, lastEntry}
+use Rattle.search.specs.Golden.{pieces, fibonacci, width, innerLow, innerHigh, State, nearer, start, step, after, mostSteps, stepsOf}
 
 -- rule 2: g is 1 about the first and the last entry, otherwise 2
 pub pieces-end : (m : ℕ) → (m ≡ 1) ⊎ (m ≡ 24) → pieces m ≡ 1
@@ -39,7 +39,7 @@ pub record Lengths (g j : ℕ) : Type 0 where
   pub next-high : g * fibonacci (17 - (j + 1)) ≡ g * fibonacci (16 - j)
   pub next-low : g * fibonacci (16 - (j + 1)) ≡ g * fibonacci (15 - j)
 
-pub lengths : (g j : ℕ) → j ≤ 14 → Lengths g j
+pub lengths : (g j : ℕ) → j ≤ mostSteps → Lengths g j
 lengths g j h =
     record {
       whole = sum g (16 - j) (omega arith) (omega arith);
@@ -65,7 +65,7 @@ nearer-one P d place best h = cond-both (λ (n : ℕ). (n ≡ best) ⊎ P n) (lt
 abbrev pub Wide : ℕ → ℕ → State → Type 0
 Wide g j s = s .high ≡ s .low + width g j
 
--- a later state t refines s: its bracket lies within that of s, its best point is no farther, and is that of s or lies in the bracket of s
+-- a later state t advances on s: its bracket lies within that of s, its best point is no farther, and is that of s or lies in the bracket of s
 pub record Advances (d : ℕ → ℕ) (s t : State) : Type 0 where
   pub low : s .low ≤ t .low
   pub high : t .high ≤ s .high
@@ -84,8 +84,8 @@ advances-trans {d} {r} {s} {t} x y =
       best = ⊎-elim (λ e. ⊎-elim (λ e′. inl (e ∙ e′)) (λ i. inr (omega arith)) (x .best)) (λ i. inr (omega arith)) (y .best);
     }
 
--- a step, whichever way it goes, keeps rule 3's width and refines the state
-module _ (d : ℕ → ℕ) (g j : ℕ) (s : State) (h : j ≤ 14) (w : Wide g j s) where
+-- a step, whichever way it goes, keeps rule 3's width and advances
+module _ (d : ℕ → ℕ) (g j : ℕ) (s : State) (h : j ≤ mostSteps) (w : Wide g j s) where
   pub step-wide : Wide g (j + 1) (step d g j s)
   unfolding step
   step-wide =
@@ -130,13 +130,13 @@ pub record Inside (from to : ℕ) (s : State) : Type 0 where
 -- the search about entry m, from 1 to 24
 module _ (d : ℕ → ℕ) (m : ℕ) (m≥1 : 1 ≤ m) (m≤24 : m ≤ 24) where
   -- rule 3: the width after j steps
-  pub after-width : (j : ℕ) → j ≤ 14 → Wide (pieces m) j (after d m j)
+  pub after-width : (j : ℕ) → j ≤ mostSteps → Wide (pieces m) j (after d m j)
   unfolding after start fibonacci
   after-width zero h = omega arith
   after-width (suc j) h = rw (add-one j) at (step-wide d (pieces m) j (after d m j) (omega arith) (after-width j (omega arith)))
 
-  -- more steps refine the state
-  pub after-advances : (i k : ℕ) → i + k ≤ 14 → Advances d (after d m i) (after d m (i + k))
+  -- more steps advance
+  pub after-advances : (i k : ℕ) → i + k ≤ mostSteps → Advances d (after d m i) (after d m (i + k))
   after-advances i zero h = rw add-zero (advances-refl d (after d m i))
   after-advances i (suc k) h =
       let n : ℕ = i + k in
@@ -155,13 +155,13 @@ module _ (d : ℕ → ℕ) (m : ℕ) (m≥1 : 1 ≤ m) (m≤24 : m ≤ 24) where
       let y = cond-both (λ (n : ℕ). (low ≤ n) × (n ≤ high)) (ltb (d b) (d (nearer d a (entryPlace m)))) {x = b} (omega arith) x in
       record { low = le-refl _; order = omega arith; high = le-refl _; best-low = y .0; best-high = y .1 }
 
-  -- the state at any step refines the start
-  from-start : (j : ℕ) → j ≤ 14 → Advances d (start d m) (after d m j)
+  -- the state at any step advances on the start
+  from-start : (j : ℕ) → j ≤ mostSteps → Advances d (start d m) (after d m j)
   unfolding after
   from-start j h = rw zero-add at (after-advances 0 j (omega arith))
 
   -- all places lie in the first bracket
-  pub after-inside : (j : ℕ) → j ≤ 14 → Inside (entryPlace (firstEntry m)) (entryPlace (lastEntry m)) (after d m j)
+  pub after-inside : (j : ℕ) → j ≤ mostSteps → Inside (entryPlace (firstEntry m)) (entryPlace (lastEntry m)) (after d m j)
   unfolding start
   after-inside j h =
       let r = from-start j h in
@@ -172,13 +172,13 @@ module _ (d : ℕ → ℕ) (m : ℕ) (m≥1 : 1 ≤ m) (m≤24 : m ≤ 24) where
       record { low = r .low; order = omega arith; high = r .high; best-low = b .0; best-high = b .1 }
 
   -- all places lie on the locus
-  pub after-range : (j : ℕ) → j ≤ 14 → Inside 5168 64600 (after d m j)
+  pub after-range : (j : ℕ) → j ≤ mostSteps → Inside firstPlace lastPlace (after d m j)
   after-range j h =
       let i = after-inside j h in
       record { low = omega arith; order = i .order; high = omega arith; best-low = omega arith; best-high = omega arith }
 
   -- the best point is no farther than entry m
-  pub after-near : (j : ℕ) → j ≤ 14 → d (after d m j .best) ≤ d (entryPlace m)
+  pub after-near : (j : ℕ) → j ≤ mostSteps → d (after d m j .best) ≤ d (entryPlace m)
   unfolding start
   after-near j h =
       let low : ℕ = entryPlace (firstEntry m) in
@@ -186,7 +186,7 @@ module _ (d : ℕ → ℕ) (m : ℕ) (m≥1 : 1 ≤ m) (m≤24 : m ≤ 24) where
       let b : ℕ = innerHigh (pieces m) 0 low in
       le-trans (from-start j h .nearer) (le-trans (nearer-le d b (nearer d a (entryPlace m))) (nearer-le d a (entryPlace m)))
 
-  -- demand 3: more steps allowed refine the state
+  -- demand 3: more steps allowed advance
   pub steps-advance : {n₁ n₂ : ℕ} → n₁ ≤ n₂ → Advances d (after d m (stepsOf n₁)) (after d m (stepsOf n₂))
   steps-advance {n₁} {n₂} h =
       let e : stepsOf n₁ + (stepsOf n₂ - stepsOf n₁) ≡ stepsOf n₂ = omega arith in
@@ -196,6 +196,6 @@ module _ (d : ℕ → ℕ) (m : ℕ) (m≥1 : 1 ≤ m) (m≤24 : m ≤ 24) where
   pub steps-width : (n : ℕ) → Wide (pieces m) (stepsOf n) (after d m (stepsOf n))
   steps-width n = after-width (stepsOf n) (omega arith)
 
--- demand 3: from 14 on the number of steps is the same
-pub steps-same : (n₁ n₂ : ℕ) → 14 ≤ n₁ → n₁ ≤ n₂ → stepsOf n₁ ≡ stepsOf n₂
+-- demand 3: from the most steps on, the number of steps is the same
+pub steps-same : (n₁ n₂ : ℕ) → mostSteps ≤ n₁ → n₁ ≤ n₂ → stepsOf n₁ ≡ stepsOf n₂
 steps-same n₁ n₂ h l = omega arith

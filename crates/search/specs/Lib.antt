@@ -1,3 +1,4 @@
 pub mod Golden
+pub mod Found
 pub mod GoldenLaws
 pub mod Code

@@ -3,16 +3,25 @@ ghost use mathlib.Core.Path.{_≡_};
 ghost use mathlib.Core.Bool.{cond};
 ghost use Prim.Native.Nat.{_≤_};
 ghost use lib.Dec.{ltb};
-ghost use Rattle.locus.specs.Locus.{distanceAt};
+ghost use Rattle.locus.specs.declared.Admission.the-variants.{Near};
+ghost use Rattle.locus.specs.Locus.{farOut, distanceAt};
+ghost use Rattle.locus.specs.Admission.{admission};
+ghost use Rattle.locus.specs.Pieces.{spanAbout};
 ghost use Rattle.search.specs.Golden.{stepsOf};
-ghost use Rattle.search.specs.Code.Progress.{found, Begins, Tracks, Lies, moved};
+ghost use Rattle.search.specs.Found.{found};
+ghost use Rattle.search.specs.Code.Progress.{Begins, Tracks, Lies, moved};
 
-// What a search has found: its bracket, its best point (document 01's "nearest point seen") and that point's squared distance.
+// The most steps of a search (rule 5).
+const MOST_STEPS: u32 = 14;
+
+// What a search has found: its bracket, its best point (document 01's "nearest point seen"), that point's squared distance, and the
+// number of steps.
 pub struct Search {
     pub low: u32,
     pub high: u32,
     pub best: u32,
     pub distance: u64,
+    pub steps: u32,
 }
 
 // A search under way. The bracket starts at `low`; its inner points are `long` from its two ends and `short` from each other.
@@ -27,14 +36,14 @@ struct Progress {
     least: u64,
 }
 
-// A choice between two distances without a branch.
+// The one or the other of two distances.
 fn choose(first: bool, x: u64, y: u64) -> u64
     ensures { λ r. ⌜ r ≡ cond first x y ⌝ }
 {
     if first { x } else { y }
 }
 
-// A choice between two places without a branch.
+// The one or the other of two places.
 fn choose_place(first: bool, x: u32, y: u32) -> u32
     ensures { λ r. ⌜ r ≡ cond first x y ⌝ }
 {
@@ -46,7 +55,7 @@ fn begin(span: locus::Span, u: u32, v: u32, entry: u32, distance: u64) -> Progre
     requires { ⌜ Begins u v span entry distance ⌝ }
     ensures { λ r. ⌜ Tracks (distanceAt u v) entry 0 r ⌝ }
 {
-    let pieces = (span.to - span.from) / 2584;
+    let pieces = (span.to - span.from) / locus::PIECE_LENGTH;
     let long = 987 * pieces;
     let short = 610 * pieces;
     let inner_low = span.from + long;
@@ -54,7 +63,7 @@ fn begin(span: locus::Span, u: u32, v: u32, entry: u32, distance: u64) -> Progre
     let left = locus::distance_on(span, u, v, inner_low);
     let right = locus::distance_on(span, u, v, inner_high);
     let low_nearer = left < distance;
-    let best = choose_place(low_nearer, inner_low, 2584 * (entry + 1));
+    let best = choose_place(low_nearer, inner_low, locus::PIECE_LENGTH * (entry + 1));
     let least = choose(low_nearer, left, distance);
     let high_nearer = right < least;
     Progress {
@@ -68,9 +77,9 @@ fn begin(span: locus::Span, u: u32, v: u32, entry: u32, distance: u64) -> Progre
     }
 }
 
-// One step (rules 4 and 6). The new point of either way is evaluated before the choice: a branch on it would often be mispredicted.
+// One step (rules 4 and 6). The new point of either way is evaluated, and then one is chosen.
 fn step(span: locus::Span, u: u32, v: u32, s: Progress) -> Progress
-    requires { ⌜ (u ≤ 4000000) × (v ≤ 4000000) × Lies span s ⌝ }
+    requires { ⌜ (u ≤ farOut) × (v ≤ farOut) × Lies span s ⌝ }
     ensures { λ r. ⌜ r ≡ moved (ltb (s .left) (s .right)) (distanceAt u v) s ⌝ }
 {
     let inner_low = s.low + s.long;
@@ -95,17 +104,22 @@ fn step(span: locus::Span, u: u32, v: u32, s: Progress) -> Progress
 }
 
 // The number of steps for an allowance (rule 5).
-pub fn steps_for(max_steps: u32) -> u32
+fn steps_for(max_steps: u32) -> u32
     ensures { λ r. ⌜ r ≡ stepsOf «max_steps» ⌝ }
 {
-    if max_steps < 14 { max_steps } else { 14 }
+    if max_steps < MOST_STEPS {
+        max_steps
+    } else {
+        MOST_STEPS
+    }
 }
 
-// The search about an entry, given the reading's distance from it (rules 2 to 6).
-pub fn run(span: locus::Span, u: u32, v: u32, entry: u32, distance: u64, steps: u32) -> Search
-    requires { ⌜ Begins u v span entry distance × (steps ≤ 14) ⌝ }
-    ensures { λ r. ⌜ r ≡ found (distanceAt u v) entry steps ⌝ }
+// The search for an admitted reading about its nearest entry, given the reading's distance from that entry (rules 2 to 6).
+pub fn run(span: locus::Span, u: u32, v: u32, entry: u32, distance: u64, max_steps: u32) -> Search
+    requires { ⌜ (admission u v ≡ Near entry distance) × (span ≡ spanAbout entry) ⌝ }
+    ensures { λ r. ⌜ r ≡ found (distanceAt u v) entry «max_steps» ⌝ }
 {
+    let steps = steps_for(max_steps);
     let mut s = begin(span, u, v, entry, distance);
     let mut j: u32 = 0;
     while j < steps {
@@ -118,5 +132,6 @@ pub fn run(span: locus::Span, u: u32, v: u32, entry: u32, distance: u64, steps: 
         high: high,
         best: s.best,
         distance: s.least,
+        steps: steps,
     }
 }

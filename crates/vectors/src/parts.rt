@@ -18,13 +18,6 @@ fn on_locus(place: u32) -> u32
     place
 }
 
-// A coordinate within 4,000,000 micro.
-fn coordinate(x: u32) -> u32
-    ensures { λ r. ⌜ r ≤ 4000000 ⌝ }
-{
-    if x > 4000000 { 4000000 } else { x }
-}
-
 // `u v` of the locus at a place.
 pub(crate) fn point(place: u32, out: &mut [u8; 65536], at: usize) -> usize {
     let us = locus::table_u();
@@ -35,10 +28,10 @@ pub(crate) fn point(place: u32, out: &mut [u8; 65536], at: usize) -> usize {
 }
 
 // `m distance` of the nearest entry, or the refusal's number alone.
-pub(crate) fn entry(x: u32, y: u32, out: &mut [u8; 65536], at: usize) -> usize {
+pub(crate) fn entry(u: u32, v: u32, out: &mut [u8; 65536], at: usize) -> usize {
     let us = locus::table_u();
     let vs = locus::table_v();
-    match locus::admit(&us, &vs, coordinate(x), coordinate(y)) {
+    match locus::admit(&us, &vs, u, v) {
         Admission::Near(m, distance) => {
             let first = put::number(out, at, m as u64);
             put::last(out, first, distance)
@@ -56,19 +49,13 @@ fn put_search(found: Search, out: &mut [u8; 65536], at: usize) -> usize {
 }
 
 // The search about the nearest entry, or the refusal's number alone.
-pub(crate) fn search(x: u32, y: u32, steps: u32, out: &mut [u8; 65536], at: usize) -> usize {
+pub(crate) fn search(u: u32, v: u32, steps: u32, out: &mut [u8; 65536], at: usize) -> usize {
     let us = locus::table_u();
     let vs = locus::table_v();
-    let u = coordinate(x);
-    let v = coordinate(y);
     match locus::admit(&us, &vs, u, v) {
         Admission::Near(m, distance) => {
             let span = locus::span_about(&us, &vs, m);
-            put_search(
-                search::run(span, u, v, m, distance, search::steps_for(steps)),
-                out,
-                at,
-            )
+            put_search(search::run(span, u, v, m, distance, steps), out, at)
         }
         Admission::Refused(refusal) => put::refused(out, at, refusal),
     }

@@ -1,31 +1,23 @@
--- The piece at the place gives the point of the locus, whose coordinates are small.
+-- The point of the locus at the place has small coordinates; the distance is that from it.
+use mathlib.Core.Path.{refl, _∙_}
 use native.Mathlib.Omega.{arith}
-use Rattle.locus.specs.Stored.{tableU, tableV}
-use Rattle.locus.specs.StoredLaws.{steady-u, steady-v}
 use Rattle.locus.specs.Locus.{distanceAt}
-use Rattle.locus.specs.LocusLaws.{locus-small}
+use Rattle.locus.specs.LocusLaws.{point-small}
+use Rattle.locus.specs.PieceLaws.{span-range}
 use borrow.Author.Needs.{needs}
 use Rattle.locus.proofs.distance_on.Statement.{statement}
 use Rattle.locus.proofs.distance_on.Tie as tie
 
-piece-at-requires : tie.Need-piece-at-requires
-piece-at-requires c κs = search needs
-
-u-on-requires : tie.Need-u-on-requires
-u-on-requires c κs = search needs
-
-v-on-requires : tie.Need-v-on-requires
-v-on-requires c κs = search needs
+point-on-requires : tie.Need-point-on-requires
+point-on-requires c κs = search needs
 
 squared-distance-requires : tie.Need-squared-distance-requires
-squared-distance-requires c κs = let place = c .before .before .before .args .place in
-    omega (arith, locus-small tableU place steady-u (omega arith), locus-small tableV place steady-v (omega arith))
+squared-distance-requires c κs = let p = c .before .pre in
+    omega (arith, p, point-small (c .before .args .place) _ (c .point-on .ensures) (omega (arith, p, span-range (p .0))))
 
 returns : tie.Need-returns
 unfolding distanceAt
-returns c = cc
+returns c = c .squared-distance .ensures ∙ rw (c .before .point-on .ensures) refl
 
 pub distance-on-spec : {M : Type 1} → statement M
-distance-on-spec =
-    tie.close
-    (tie.spec piece-at-requires u-on-requires v-on-requires squared-distance-requires returns)
+distance-on-spec = tie.close (tie.spec point-on-requires squared-distance-requires returns)

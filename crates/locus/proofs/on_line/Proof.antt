@@ -1,15 +1,20 @@
 -- The product and the sum fit 32 bits, since the numbers of a line are small.
+use Prim.Native.Nat.{_*_, _≤_}
+use native.Mathlib.Nat.{mul-le-mul}
 use native.Mathlib.Omega.{arith}
-use Rattle.locus.proofs.Lines.{line-small}
+use Rattle.locus.specs.Stored.{lastPlace}
 use borrow.Author.Needs.{needs}
 use Rattle.locus.proofs.on_line.Statement.{statement}
 use Rattle.locus.proofs.on_line.Tie as tie
 
+product : (c : tie.Start) → c .args .line .d * c .args .place ≤ 10000 * lastPlace
+product c = mul-le-mul (c .pre .0 .d) (c .pre .1)
+
 mul-result : tie.Need-mul-result
-mul-result c = omega (arith, line-small (c .before .pre .1) (c .before .pre .2))
+mul-result c = omega (arith, product (c .before))
 
 add-result : tie.Need-add-result
-add-result c = omega (arith, line-small (c .before .before .pre .1) (c .before .before .pre .2))
+add-result c = omega (arith, product (c .before .before))
 
 returns : tie.Need-returns
 returns c = search needs

@@ -1,6 +1,7 @@
--- The place lies in its piece, which follows the locus there.
+-- The place lies in the span about the entry that its piece starts at.
+use mathlib.Core.Path.{refl}
 use native.Mathlib.Omega.{arith}
-use Rattle.locus.proofs.Lines.{piece-part}
+use Rattle.locus.specs.PieceLaws.{span-ends}
 use borrow.Author.Needs.{needs}
 use Rattle.locus.proofs.point_at.Statement.{statement}
 use Rattle.locus.proofs.point_at.Tie as tie
@@ -8,20 +9,19 @@ use Rattle.locus.proofs.point_at.Tie as tie
 piece-of-requires : tie.Need-piece-of-requires
 piece-of-requires c κs = search needs
 
-piece-from-requires : tie.Need-piece-from-requires
-piece-from-requires c κs = search needs
+span-about-requires : tie.Need-span-about-requires
+span-about-requires c κs = search needs
 
-u-on-requires : tie.Need-u-on-requires
-u-on-requires c κs = let place = c .before .before .args .place in
-    (piece-part place place (c .piece-from .ensures) (omega arith) (omega arith), omega arith)
-
-v-on-requires : tie.Need-v-on-requires
-v-on-requires c κs = let place = c .before .before .before .args .place in
-    (piece-part place place (c .before .piece-from .ensures) (omega arith) (omega arith), omega arith)
+point-on-requires : tie.Need-point-on-requires
+point-on-requires c κs =
+    let i = c .before .piece-of .result in
+    let s = c .span-about .ensures .0 in
+    let e = span-ends i (c .span-about .result) s in
+    (record { entry = i; first = omega arith; last = omega arith; is = s }, omega arith, omega arith)
 
 returns : tie.Need-returns
-returns c = cc
+returns c = (c .point-on .ensures, (refl, refl))
 
 pub point-at-spec : {M : Type 1} → statement M
 point-at-spec =
-    tie.close (tie.spec piece-of-requires piece-from-requires u-on-requires v-on-requires returns)
+    tie.close (tie.spec piece-of-requires span-about-requires point-on-requires returns)

@@ -1,9 +1,21 @@
--- Each piece follows the locus over its part of the bracket.
+-- The ends and the pieces are those of the definition, by the first and the last entry of the bracket.
+use mathlib.Core.Path.{_≡_, refl, ap, _∙_}
+use Prim.Native.Nat.{ℕ, _+_, _-_, _*_, _≤_}
 use native.Mathlib.Omega.{arith}
-use Rattle.locus.proofs.Lines.{piece-part}
+use Rattle.locus.specs.Stored.{pieceLength, entryPlace, firstEntry, lastEntry}
+use Rattle.locus.specs.Pieces.{pieceFrom, spanAbout}
+use Rattle.locus.specs.declared.Piece.{Piece}
 use borrow.Author.Needs.{needs}
 use Rattle.locus.proofs.span_about.Statement.{statement}
 use Rattle.locus.proofs.span_about.Tie as tie
+
+about : (m : ℕ) {a b : ℕ} {left right : Piece} → a ≡ firstEntry m → b ≡ lastEntry m - 1 → 1 ≤ lastEntry m → left ≡ pieceFrom a → right ≡ pieceFrom b → record { from = pieceLength * (a + 1); mid = pieceLength * (a + 2); to = pieceLength * (b + 2); left = left; right = right } ≡ spanAbout m
+unfolding spanAbout
+about m {a} {b} ea eb h el er =
+    let from : pieceLength * (a + 1) ≡ entryPlace (firstEntry m) = omega arith in
+    let mid : pieceLength * (a + 2) ≡ entryPlace (firstEntry m + 1) = omega arith in
+    let to : pieceLength * (b + 2) ≡ entryPlace (lastEntry m) = omega arith in
+    λ i. record { from = from i; mid = mid i; to = to i; left = (el ∙ ap pieceFrom ea) i; right = (er ∙ ap pieceFrom eb) i }
 
 first-entry-requires : tie.Need-first-entry-requires
 first-entry-requires c κs = search needs
@@ -39,19 +51,8 @@ mul-t13 : tie.Need-mul-t13
 mul-t13 c = search needs
 
 returns : tie.Need-returns
-returns c = let l = c .before .piece-from .ensures in
-    let r = c .piece-from2 .ensures in
-    record {
-      from = omega arith;
-      to = omega arith;
-      follows =
-          record {
-            left = piece-part _ _ l (omega arith) (omega arith);
-            right = piece-part _ _ r (omega arith) (omega arith);
-            low = omega arith;
-            high = omega arith;
-          };
-    }
+returns c =
+    (about (c .before .before .before .before .args .m) (c .before .before .before .first-entry .ensures) (ap (λ (n : ℕ). n - 1) (c .before .before .last-entry .ensures)) (omega arith) (c .before .piece-from .ensures) (c .piece-from2 .ensures), (refl, refl))
 
 pub span-about-spec : {M : Type 1} → statement M
 span-about-spec =

@@ -51,8 +51,9 @@ returns : tie.Need-returns
 returns c =
     let a = c .before .before .before .before .before .before .before .before .args in
     let h = c .before .before .before .before .before .before .before .before .pre in
-    begun (distanceAt (a .u) (a .v)) (a .entry) _ (h .first) (h .last) (h .about .from) (omega arith) (omega arith) refl refl
-    (h .away ∙ sym (entry-distance (a .u) (a .v) (a .entry) (h .first) (h .last)))
+    let n = h .admitted in
+    begun (distanceAt (a .u) (a .v)) (a .entry) _ (n .first) (n .last) (h .from) (omega arith) (omega arith) refl refl
+    (n .distance ∙ sym (entry-distance (a .u) (a .v) (a .entry) (n .first) (n .last)))
     (c .before .before .before .before .before .distance-on .ensures) (c .before .before .before .before .distance-on2 .ensures)
     (c .before .before .before .choose-place .ensures) (c .before .before .choose .ensures) (c .before .choose-place2 .ensures) (c .choose2 .ensures)
 

@@ -1,29 +1,21 @@
--- What a search begins with and answers; then, for the private functions, what the search under way holds and how a step changes it.
+-- What a search begins with, what it holds under way and how a step changes it.
 use mathlib.Core.Path.{_≡_}
 use mathlib.Core.Bool.{Bool, cond}
 use Prim.Native.Nat.{ℕ, _+_, _-_, _*_, _≤_}
 use lib.Dec.{ltb}
-use Rattle.locus.specs.Locus.{entryDistance}
-use Rattle.locus.specs.Code.Pieces.{SpanFollows, SpanAbout}
+use Rattle.locus.specs.Stored.{entryPlace, lastPlace, firstEntry, lastEntry}
+use Rattle.locus.specs.AdmissionLaws.{Admitted}
+use Rattle.locus.specs.Pieces.{AboutAnEntry}
 use Rattle.locus.specs.declared.Span.{Span}
 use Rattle.search.specs.Golden.{pieces, fibonacci, innerLow, innerHigh, State, after}
 use Rattle.search.specs.declared.Progress.{Progress}
-use Rattle.search.specs.declared.Search.{Search}
 
--- the search about entry m after j steps, with the best point's distance
-unfoldable pub found : (ℕ → ℕ) → ℕ → ℕ → Search
-found d m j =
-    let s : State = after d m j in
-    record { low = s .low; high = s .high; best = s .best; distance = d (s .best) }
-
--- what a search begins with: the span about entry m and the reading's distance from that entry
+-- what a search begins with: an admitted reading and the span over the bracket about its entry m
 pub record Begins (u v : ℕ) (span : Span) (m distance : ℕ) : Type 0 where
-  pub u-small : u ≤ 4000000
-  pub v-small : v ≤ 4000000
-  pub first : 1 ≤ m
-  pub last : m ≤ 24
-  pub about : SpanAbout m span
-  pub away : distance ≡ entryDistance u v m
+  pub admitted : Admitted u v m distance
+  pub about : AboutAnEntry span
+  pub from : span .from ≡ entryPlace (firstEntry m)
+  pub to : span .to ≡ entryPlace (lastEntry m)
 
 -- the state of the rules
 abbrev pub stateOf : Progress → State
@@ -40,7 +32,8 @@ pub record Tracks (d : ℕ → ℕ) (m j : ℕ) (p : Progress) : Type 0 where
 
 -- the bracket lies within a span
 pub record Lies (span : Span) (p : Progress) : Type 0 where
-  pub follows : SpanFollows span
+  pub about : AboutAnEntry span
+  pub on-locus : span .to ≤ lastPlace
   pub low : span .from ≤ p .low
   pub high : p .low + 2 * p .long + p .short ≤ span .to
   pub lengths : p .short ≤ p .long
