@@ -50,12 +50,12 @@ weighted {x} {y} {bound} {t} hx hy ht =
     let e : s + t ≡ pieceLength = omega arith in
     omega (arith, mul-le-mul-right s hx, mul-le-mul-right t hy, mul-add bound s t, ap (λ (n : ℕ). bound * n) e)
 
-pub between-small : (entry : ℕ → ℕ) (i t bound : ℕ) → entry i ≤ bound → entry (i + 1) ≤ bound → t ≤ pieceLength → between entry i t ≤ bound
+between-small : (entry : ℕ → ℕ) (i t bound : ℕ) → entry i ≤ bound → entry (i + 1) ≤ bound → t ≤ pieceLength → between entry i t ≤ bound
 unfolding between
 between-small entry i t bound hx hy ht = nearest-le _ pieceLength bound (lit< tt) (weighted hx hy ht)
 
 -- a coordinate of the locus is at most 1
-pub locus-small : (table : List ℕ) (place : ℕ) → Steady table → place ≤ lastPlace → locusAt (entryIn table) place ≤ micro
+locus-small : (table : List ℕ) (place : ℕ) → Steady table → place ≤ lastPlace → locusAt (entryIn table) place ≤ micro
 unfolding locusAt
 locus-small table place s h =
     between-small (entryIn table) (pieceOf place) _ micro (s .small (pieceOf place) (omega arith)) (s .small (pieceOf place + 1) (omega arith)) (omega arith)

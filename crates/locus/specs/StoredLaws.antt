@@ -1,11 +1,11 @@
 -- The stored tables keep the bounds by which the code's sums and products fit: one test computed over each whole table.
 use mathlib.Core.Path.{_≡_, refl}
 use mathlib.Core.Bool.{Bool, true, _&&_}
-use mathlib.Core.List.{List, map}
+use mathlib.Core.List.{List}
 use Prim.Native.Nat.{ℕ, _+_, _-_, _*_, _≤_, _<_}
 use native.Mathlib.Omega.{arith}
 use lib.Dec.{leb}
-use lib.ListN.{length, getD, take, length-take, List·getD-map}
+use lib.ListN.{length, getD, take, length-take}
 use lib.Seq.{getD-take}
 use borrow.Author.Tests.{leb-true}
 use Rattle.arith.specs.Units.{micro}
@@ -14,11 +14,6 @@ use Rattle.arith.specs.EveryLaws.{every-at, every-entry}
 use Rattle.arith.specs.TestLaws.{and-both}
 use Rattle.locus.specs.Stored.{storedU, storedV, tableU, tableV, entryIn, pieceLength, entryPlace}
 use Rattle.locus.specs.Code.Lines.{Rises}
-
--- an entry in micro is ten times its stored number
-pub entry-tenfold : (stored : List ℕ) (i : ℕ) → entryIn (map (λ x. 10 * x) stored) i ≡ 10 * getD stored (i - 1) 0
-unfolding entryIn
-entry-tenfold stored i = List·getD-map (λ x. 10 * x) stored (i - 1) 0
 
 -- every coordinate is at most 1, and each piece rises slowly
 pub record Steady (table : List ℕ) : Type 0 where
@@ -56,7 +51,7 @@ module _ (table : List ℕ) (count : length table ≡ 24) (all-small : every sma
       let t = rw (getD-take 23 table (i - 1) 0 (omega arith), here) at (every-entry (pieceTest table) (take 23 table) 0 all-rise (i - 1) short) in
       rw next (rise-tested i _ _ t (small-at i (omega arith)))
 
-  pub steady : Steady table
+  steady : Steady table
   steady = record { small = small-at; rises = rises-at }
 
 pub steady-u : Steady tableU

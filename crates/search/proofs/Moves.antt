@@ -4,7 +4,7 @@ use mathlib.Core.Bool.{Bool, true, false, cond}
 use Prim.Native.Nat.{ℕ, _+_, _-_, _*_, _≤_}
 use native.Mathlib.Omega.{arith}
 use lib.Dec.{ltb}
-use Rattle.locus.specs.Stored.{entryPlace, firstEntry, lastEntry}
+use Rattle.locus.specs.Stored.{entryPlace, firstEntry}
 use Rattle.locus.specs.declared.Admission.the-variants.{Near}
 use Rattle.locus.specs.Admission.{admission}
 use Rattle.locus.specs.AdmissionLaws.{admitted-near}

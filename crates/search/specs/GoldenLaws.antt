@@ -51,7 +51,7 @@ lengths g j h =
     }
 
 -- rule 6: a place that is looked at brings nothing farther; it becomes the best point or leaves it
-pub nearer-le : (d : ℕ → ℕ) (place best : ℕ) → d (nearer d place best) ≤ d best
+nearer-le : (d : ℕ → ℕ) (place best : ℕ) → d (nearer d place best) ≤ d best
 nearer-le d place best = go (ltb (d place) (d best)) refl
   where
     go : (b : Bool) → ltb (d place) (d best) ≡ b → d (cond b place best) ≤ d best
@@ -72,10 +72,10 @@ pub record Advances (d : ℕ → ℕ) (s t : State) : Type 0 where
   pub nearer : d (t .best) ≤ d (s .best)
   pub best : (t .best ≡ s .best) ⊎ ((s .low ≤ t .best) × (t .best ≤ s .high))
 
-pub advances-refl : (d : ℕ → ℕ) (s : State) → Advances d s s
+advances-refl : (d : ℕ → ℕ) (s : State) → Advances d s s
 advances-refl d s = record { low = le-refl _; high = le-refl _; nearer = le-refl _; best = inl refl }
 
-pub advances-trans : {d : ℕ → ℕ} {r s t : State} → Advances d r s → Advances d s t → Advances d r t
+advances-trans : {d : ℕ → ℕ} {r s t : State} → Advances d r s → Advances d s t → Advances d r t
 advances-trans {d} {r} {s} {t} x y =
     record {
       low = le-trans (x .low) (y .low);
@@ -86,13 +86,13 @@ advances-trans {d} {r} {s} {t} x y =
 
 -- a step, whichever way it goes, keeps rule 3's width and advances
 module _ (d : ℕ → ℕ) (g j : ℕ) (s : State) (h : j ≤ mostSteps) (w : Wide g j s) where
-  pub step-wide : Wide g (j + 1) (step d g j s)
+  step-wide : Wide g (j + 1) (step d g j s)
   unfolding step
   step-wide =
       let l = lengths g j h in
       cond-both (Wide g (j + 1)) (ltb (d (innerLow g j (s .low))) (d (innerHigh g j (s .low)))) (omega arith) (omega arith)
 
-  pub step-advances : Advances d s (step d g j s)
+  step-advances : Advances d s (step d g j s)
   unfolding step
   step-advances =
       let l = lengths g j h in

@@ -1,5 +1,5 @@
 -- `accepted_answer` meets its contract: the search, Duv and the class are those of the definition.
-use mathlib.Core.Path.{_≡_, ap, _∙_}
+use mathlib.Core.Path.{ap, _∙_}
 use native.Mathlib.Omega.{arith}
 use denote.Ref.{now}
 use mir.Syntax.{w32}

@@ -1,5 +1,5 @@
 -- `answer_point` meets its contract: refusals 5 to 7 by `admit`, otherwise the accepted answer about the entry found.
-use mathlib.Core.Path.{_≡_, sym, _∙_}
+use mathlib.Core.Path.{sym, _∙_}
 use denote.Ref.{now}
 use Rattle.locus.specs.AdmissionLaws.{admitted-near}
 use Rattle.cct.proofs.Assembly.{point-refused, point-accepted}

@@ -1,5 +1,5 @@
 -- `run` meets its contract: after j turns of the loop the code's search is that of the rules after j steps.
-use mathlib.Core.Path.{_≡_, _∙_}
+use mathlib.Core.Path.{_≡_}
 use Prim.Native.Nat.{_-_, _≤_}
 use native.Mathlib.Omega.{arith}
 use Rattle.locus.specs.Locus.{distanceAt}
