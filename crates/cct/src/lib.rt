@@ -91,6 +91,7 @@ fn accepted_answer(
     ensures { λ r. ⌜ r ≡ accepted (now (edges .entry)) «max_steps» u v entry ⌝ }
 {
     let found = search::run(span, u, v, entry, distance, max_steps);
+    let steps = found.steps;
     let duv = duv_on(span, u, v, found.best, found.distance);
     let class = classes::class_of(edges, found.low, found.high, found.best);
     Answer {
@@ -99,7 +100,7 @@ fn accepted_answer(
         high: found.high,
         duv: duv,
         refusal: 0,
-        steps: found.steps as u8,
+        steps: steps as u8,
         class: class,
     }
 }

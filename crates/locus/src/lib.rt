@@ -60,16 +60,16 @@ fn stored_point(us: &[u32; 24], vs: &[u32; 24], i: usize) -> Chromaticity
     }
 }
 
-// One coordinate of a straight piece of the locus: at a place it is (c + d * place) / 2584.
-pub struct Line {
-    pub c: u32,
-    pub d: u32,
+// One coordinate of a straight piece of the locus: at a place it is (c + d * place) / PIECE_LENGTH.
+struct Line {
+    c: u32,
+    d: u32,
 }
 
 // A piece of the locus, from one entry to the next.
-pub struct Piece {
-    pub u: Line,
-    pub v: Line,
+struct Piece {
+    u: Line,
+    v: Line,
 }
 
 // The line from x at entry i to y at entry i + 1. Half a piece is added in c, so that the division rounds to nearest, halves up.
@@ -221,10 +221,10 @@ pub fn admit(us: &[u32; 24], vs: &[u32; 24], u: u32, v: u32) -> Admission
 // The two pieces about an entry: left from the place `from` to `mid`, right from there to `to`.
 pub struct Span {
     pub from: u32,
-    pub mid: u32,
+    mid: u32,
     pub to: u32,
-    pub left: Piece,
-    pub right: Piece,
+    left: Piece,
+    right: Piece,
 }
 
 // The first entry of the bracket about entry m.

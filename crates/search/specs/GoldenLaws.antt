@@ -84,7 +84,7 @@ advances-trans {d} {r} {s} {t} x y =
       best = ⊎-elim (λ e. ⊎-elim (λ e′. inl (e ∙ e′)) (λ i. inr (omega arith)) (x .best)) (λ i. inr (omega arith)) (y .best);
     }
 
--- a step, whichever way it goes, keeps rule 3's width and advances
+-- a step, whichever way it goes, keeps rule 3's width and advances on the state before it
 module _ (d : ℕ → ℕ) (g j : ℕ) (s : State) (h : j ≤ mostSteps) (w : Wide g j s) where
   step-wide : Wide g (j + 1) (step d g j s)
   unfolding step
@@ -135,7 +135,7 @@ module _ (d : ℕ → ℕ) (m : ℕ) (m≥1 : 1 ≤ m) (m≤24 : m ≤ 24) where
   after-width zero h = omega arith
   after-width (suc j) h = rw (add-one j) at (step-wide d (pieces m) j (after d m j) (omega arith) (after-width j (omega arith)))
 
-  -- more steps advance
+  -- after more steps the state advances on the earlier one
   pub after-advances : (i k : ℕ) → i + k ≤ mostSteps → Advances d (after d m i) (after d m (i + k))
   after-advances i zero h = rw add-zero (advances-refl d (after d m i))
   after-advances i (suc k) h =
@@ -186,7 +186,7 @@ module _ (d : ℕ → ℕ) (m : ℕ) (m≥1 : 1 ≤ m) (m≤24 : m ≤ 24) where
       let b : ℕ = innerHigh (pieces m) 0 low in
       le-trans (from-start j h .nearer) (le-trans (nearer-le d b (nearer d a (entryPlace m))) (nearer-le d a (entryPlace m)))
 
-  -- demand 3: more steps allowed advance
+  -- demand 3: with more steps allowed the state advances
   pub steps-advance : {n₁ n₂ : ℕ} → n₁ ≤ n₂ → Advances d (after d m (stepsOf n₁)) (after d m (stepsOf n₂))
   steps-advance {n₁} {n₂} h =
       let e : stepsOf n₁ + (stepsOf n₂ - stepsOf n₁) ≡ stepsOf n₂ = omega arith in

@@ -11,6 +11,11 @@ ghost use Rattle.search.specs.Golden.{stepsOf};
 ghost use Rattle.search.specs.Found.{found};
 ghost use Rattle.search.specs.Code.Progress.{Begins, Tracks, Lies, moved};
 
+// F(16) and F(15) of Fibonacci's sequence (rule 3).
+const FIBONACCI_16: u32 = 987;
+
+const FIBONACCI_15: u32 = 610;
+
 // The most steps of a search (rule 5).
 const MOST_STEPS: u32 = 14;
 
@@ -56,8 +61,8 @@ fn begin(span: locus::Span, u: u32, v: u32, entry: u32, distance: u64) -> Progre
     ensures { λ r. ⌜ Tracks (distanceAt u v) entry 0 r ⌝ }
 {
     let pieces = (span.to - span.from) / locus::PIECE_LENGTH;
-    let long = 987 * pieces;
-    let short = 610 * pieces;
+    let long = FIBONACCI_16 * pieces;
+    let short = FIBONACCI_15 * pieces;
     let inner_low = span.from + long;
     let inner_high = inner_low + short;
     let left = locus::distance_on(span, u, v, inner_low);

@@ -22,17 +22,17 @@ duv-on-requires c κs =
 class-of-requires : tie.Need-class-of-requires
 class-of-requires c κs = search needs
 
-cast-t11 : tie.Need-cast-t11
+cast-t12 : tie.Need-cast-t12
 unfolding found
-cast-t11 c = omega (arith, ap (λ (s : Search). s .steps) (c .before .before .before .run .ensures))
+cast-t12 c = omega (arith, ap (λ (s : Search). s .steps) (c .before .before .run .ensures))
 
 returns : tie.Need-returns
 returns c =
-    let a = c .before .before .before .before .before .args in
-    let d = c .before .before .duv-on in
+    let a = c .before .before .before .before .args in
+    let d = c .before .duv-on in
     let back = toZ-ofZ {w = w32} {z = d .result} (record { sfits = d .ok }) in
-    accepted-from (now (a .edges)) (a .u) (a .v) (a .entry) (a .max-steps) (c .before .before .before .run .result) _ (c .before .class-of .result) (c .before .before .before .run .ensures) (back ∙ d .ensures) (c .before .class-of .ensures .0)
+    accepted-from (now (a .edges)) (a .u) (a .v) (a .entry) (a .max-steps) (c .before .before .run .result) _ (c .class-of .result) (c .before .before .run .ensures) (back ∙ d .ensures) (c .class-of .ensures .0)
 
 pub accepted-answer-spec : {M : Type 1} → statement M
 accepted-answer-spec =
-    tie.close (tie.spec run-requires duv-on-requires class-of-requires cast-t11 returns)
+    tie.close (tie.spec run-requires duv-on-requires class-of-requires cast-t12 returns)
