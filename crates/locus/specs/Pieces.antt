@@ -1,5 +1,5 @@
--- The locus as the code holds it: a line for each coordinate of a piece, and the two pieces about an entry. `PieceLaws` proves that
--- they give the locus at every place.
+-- The locus of `Locus` as the code holds it: a line for each coordinate of a piece, and the two pieces about an entry. `PieceLaws` proves
+-- that they give the same locus at every place (document 01, "The stored locus", and rule 2 of "The search").
 use mathlib.Core.Path.{_≡_}
 use mathlib.Core.Bool.{cond}
 use Prim.Native.Nat.{ℕ, _+_, _-_, _*_, _/_, _≤_}
@@ -25,7 +25,7 @@ lineAt line place = (line .c + line .d * place) / pieceLength
 unfoldable pub pieceFrom : ℕ → Piece
 pieceFrom i = record { u = lineThrough i (entryU i) (entryU (i + 1)); v = lineThrough i (entryV i) (entryV (i + 1)) }
 
--- the two pieces of the bracket about entry m; about the first and the last entry the one piece stands twice
+-- rule 2: the two pieces of the bracket about entry m; about the first and the last entry the one piece stands twice
 unfoldable pub spanAbout : ℕ → Span
 spanAbout m =
     record {

@@ -1,4 +1,4 @@
--- What the search answers.
+-- What the search answers (document 01, "The search", rules 2 to 6).
 use Prim.Native.Nat.{ℕ}
 use Rattle.search.specs.Golden.{State, after, stepsOf}
 use Rattle.search.specs.declared.Search.{Search}
