@@ -23,7 +23,3 @@ nearest-at-most a zero q h = rw (nearest-zero a) (omega arith)
 nearest-at-most a (suc b) q h =
     let e : suc q * (2 * suc b) ≡ 2 * (q * suc b) + 2 * suc b = suc-mul q (2 * suc b) ∙ ap (λ (x : ℕ). x + 2 * suc b) (mul-left-comm q 2 (suc b)) in
     le-of-suc-le-suc (div-lt-iff-lt-mul (mul-pos (lit< tt) (zero-lt-suc b)) .1 (omega arith))
-
--- the same, for a divisor that is known not to be 0
-pub nearest-le : (a b q : ℕ) → 0 < b → a ≤ q * b → nearestQuotient a b ≤ q
-nearest-le a b q pos h = nearest-at-most a b q h

@@ -9,7 +9,6 @@ ghost use mathlib.Core.Bool.{cond};
 ghost use Prim.Native.Nat.{_≤_, _<_};
 ghost use lib.Dec.{leb};
 ghost use lib.IntN.{pos, negℤ};
-ghost use lib.ListN.{length};
 ghost use Rattle.reading.specs.Convert.{convertReading, convertWhole};
 ghost use Rattle.locus.specs.Admission.{admission};
 ghost use Rattle.locus.specs.Pieces.{spanAbout};
@@ -87,7 +86,7 @@ fn accepted_answer(
     edges: &[u32],
     max_steps: u32,
 ) -> Answer
-    requires { ⌜ (admission u v ≡ Admission.Near entry distance) × (span ≡ spanAbout entry) × (length (now edges) ≤ 32) ⌝ }
+    requires { ⌜ (admission u v ≡ Admission.Near entry distance) × (span ≡ spanAbout entry) ⌝ }
     ensures { λ r. ⌜ r ≡ accepted (now (edges .entry)) «max_steps» u v entry ⌝ }
 {
     let found = search::run(span, u, v, entry, distance, max_steps);
@@ -107,7 +106,6 @@ fn accepted_answer(
 
 // The answer to a point, the edges being valid: refusals 5, 6 and 7, or the accepted answer.
 fn answer_point(u: u32, v: u32, edges: &[u32], max_steps: u32) -> Answer
-    requires { ⌜ length (now edges) ≤ 32 ⌝ }
     ensures { λ r. ⌜ r ≡ answered (now (edges .entry)) «max_steps» (checkedPoint (Converted.Point u v)) ⌝ }
 {
     let us = locus::table_u();

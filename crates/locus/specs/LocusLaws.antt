@@ -5,9 +5,8 @@ use mathlib.Core.List.{List}
 use Prim.Native.Nat.{ℕ, _+_, _-_, _*_, _≤_, _<_}
 use native.Mathlib.Nat.{eq-or-lt-of-le, mul-le-mul, mul-le-mul-right, mul-add}
 use native.Mathlib.Omega.{arith}
-use lib.Dec.{lit<}
 use Rattle.arith.specs.Units.{micro}
-use Rattle.arith.specs.RoundingLaws.{nearest-le}
+use Rattle.arith.specs.RoundingLaws.{nearest-at-most}
 use Rattle.locus.specs.Stored.{tableU, tableV, entryIn, entryU, entryV, pieceLength, entryPlace, lastPlace}
 use Rattle.locus.specs.StoredLaws.{Steady, steady-u, steady-v}
 use Rattle.locus.specs.Locus.{pieceOf, between, locusAt, locusPoint, farOut, difference, distanceAt, entryDistance}
@@ -52,7 +51,7 @@ weighted {x} {y} {bound} {t} hx hy ht =
 
 between-small : (entry : ℕ → ℕ) (i t bound : ℕ) → entry i ≤ bound → entry (i + 1) ≤ bound → t ≤ pieceLength → between entry i t ≤ bound
 unfolding between
-between-small entry i t bound hx hy ht = nearest-le _ pieceLength bound (lit< tt) (weighted hx hy ht)
+between-small entry i t bound hx hy ht = nearest-at-most _ pieceLength bound (weighted hx hy ht)
 
 -- a coordinate of the locus is at most 1
 locus-small : (table : List ℕ) (place : ℕ) → Steady table → place ≤ lastPlace → locusAt (entryIn table) place ≤ micro

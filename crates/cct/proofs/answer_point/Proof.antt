@@ -38,8 +38,7 @@ span-about-requires c κs =
     (search needs, search needs, n .first, n .last)
 
 accepted-answer-requires : tie.Need-accepted-answer-requires
-accepted-answer-requires c κs =
-    (near (c .before .before .before .before), c .span-about .ensures .0, c .before .before .before .before .before .before .before .before .before .before .before .before .pre)
+accepted-answer-requires c κs = (near (c .before .before .before .before), c .span-about .ensures .0)
 
 returns : tie.Need-returns
 returns c =

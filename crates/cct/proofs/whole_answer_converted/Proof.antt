@@ -2,7 +2,6 @@
 use mathlib.Core.Path.{_≡_, refl, sym, _∙_}
 use denote.Ref.{now}
 use borrow.Author.Tests.{not-true, not-false}
-use Rattle.classes.specs.EdgeLaws.{valid-short}
 use Rattle.refusal.specs.declared.Refusal.the-variants.{BadEdges}
 use Rattle.cct.specs.Answers.{refused}
 use Rattle.cct.specs.RefusalLaws.{bad-edges, not-converted, condition-refused}
@@ -33,7 +32,7 @@ enum-known-converted-2 : tie.Need-enum-known-converted-2
 enum-known-converted-2 c = search needs
 
 answer-point-requires : tie.Need-answer-point-requires
-answer-point-requires c κs = valid-short (now (c .before .before .before .before .before .before .args .edges)) (sym (c .before .before .before .before .edges-valid .ensures .0) ∙ not-false _ (c .before .before .before .if1 .left))
+answer-point-requires c κs = search needs
 
 returns-2 : tie.Need-returns-2
 returns-2 c =
