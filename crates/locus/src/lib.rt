@@ -164,7 +164,7 @@ fn nearest_entry(us: &[u32; 24], vs: &[u32; 24], u: u32, v: u32) -> Nearest
     best
 }
 
-// The sum of the products of the u parts and the v parts.
+// The dot product of (a, b) and (x, y).
 fn dot_product(a: u32, b: u32, x: u32, y: u32) -> u64
     requires { ⌜ (a ≤ farOut) × (b ≤ farOut) × (x ≤ farOut) × (y ≤ farOut) ⌝ }
     ensures { λ r. ⌜ r ≡ dot a b x y ⌝ }

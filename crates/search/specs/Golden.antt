@@ -8,7 +8,7 @@ use Rattle.locus.specs.Stored.{entryPlace, firstEntry, lastEntry}
 abbrev pub pieces : ℕ → ℕ
 pieces m = lastEntry m - firstEntry m
 
--- rule 3: Fibonacci's sequence with F(1) = F(2) = 1
+-- rule 3: document 01's F, Fibonacci's numbers, of which the first two are 1
 unfoldable pub fibonacci : ℕ → ℕ
 fibonacci zero = 0
 fibonacci (suc zero) = 1
