@@ -16,14 +16,14 @@ use Rattle.locus.specs.declared.Span.{Span}
 use Rattle.locus.specs.declared.Admission.the-variants as admitted
 use Rattle.locus.specs.Locus.{locusV, distanceAt}
 use Rattle.locus.specs.LocusLaws.{entry-distance}
-use Rattle.locus.specs.Pieces.{spanAbout}
+use Rattle.locus.specs.Code.Pieces.{spanAbout}
 use Rattle.locus.specs.PieceLaws.{span-ends}
 use Rattle.locus.specs.Admission.{admission}
 use Rattle.locus.specs.AdmissionLaws.{admitted-near}
 use Rattle.search.specs.declared.Search.{Search}
 use Rattle.search.specs.Golden.{stepsOf}
 use Rattle.search.specs.GoldenLaws.{after-inside, after-near}
-use Rattle.search.specs.Found.{found}
+use Rattle.search.specs.Code.Found.{found}
 use Rattle.classes.specs.Edges.{edgesValid}
 use Rattle.classes.specs.Classes.{classOf}
 use Rattle.cct.specs.Answers.{checkedPoint, checked, duvAt, refused, accepted, answered, answer}

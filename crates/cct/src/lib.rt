@@ -11,7 +11,7 @@ ghost use lib.Dec.{leb};
 ghost use lib.IntN.{pos, negℤ};
 ghost use Rattle.reading.specs.Convert.{convertReading, convertWhole};
 ghost use Rattle.locus.specs.Admission.{admission};
-ghost use Rattle.locus.specs.Pieces.{spanAbout};
+ghost use Rattle.locus.specs.Code.Pieces.{spanAbout};
 ghost use Rattle.cct.specs.Answers.{duvAt, refused, accepted, answered, checkedPoint, answer};
 ghost use Rattle.cct.specs.Code.OnSpan.{OnSpan};
 ghost use Rattle.cct.specs.FloatAnswers.{floatAnswer};

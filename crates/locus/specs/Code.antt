@@ -1,3 +1,4 @@
--- What the contracts of functions inside the crate say; no reader of the rules needs it.
+-- What the code keeps of the locus, and what its functions ask of each other. `PieceLaws` proves that it gives the locus of the rules.
 pub mod Lines
+pub mod Pieces
 pub mod NearestSoFar

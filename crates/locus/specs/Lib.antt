@@ -1,7 +1,6 @@
 pub mod Stored
 pub mod Locus
 pub mod Admission
-pub mod Pieces
 pub mod StoredLaws
 pub mod LocusLaws
 pub mod AdmissionLaws

@@ -13,7 +13,7 @@ use Rattle.locus.specs.Stored.{tableU, tableV, entryIn, entryU, entryV, 
 use Rattle.locus.specs.StoredLaws.{Steady, steady-u, steady-v}
 use Rattle.locus.specs.Locus.{pieceOf, between, locusAt}
 use Rattle.locus.specs.LocusLaws.{between-end, locus-entry}
-use Rattle.locus.specs.Pieces.{halfPiece, lineThrough, lineAt, pieceFrom, spanAbout, pieceAt, AboutAnEntry}
+use Rattle.locus.specs.Code.Pieces.{halfPiece, lineThrough, lineAt, pieceFrom, spanAbout, pieceAt, AboutAnEntry}
 use Rattle.locus.specs.Code.Lines.{LineFits}
 use Rattle.locus.specs.declared.Line.{Line}
 use Rattle.locus.specs.declared.Piece.{Piece}

@@ -7,7 +7,7 @@ ghost use Prim.Native.Nat.{_+_, _-_, _*_, _≤_, _<_};
 ghost use Rattle.locus.specs.Stored.{tableU, tableV, storedPoint, firstPlace, lastPlace, firstEntry, lastEntry};
 ghost use Rattle.locus.specs.Locus.{pieceOf, locusPoint, farOut, difference, squaredDistance, distanceAt};
 ghost use Rattle.locus.specs.Admission.{dot, behind, admission};
-ghost use Rattle.locus.specs.Pieces.{lineThrough, lineAt, pieceFrom, spanAbout, pieceAt, AboutAnEntry};
+ghost use Rattle.locus.specs.Code.Pieces.{lineThrough, lineAt, pieceFrom, spanAbout, pieceAt, AboutAnEntry};
 ghost use Rattle.locus.specs.Code.Lines.{Rises, LineFits};
 ghost use Rattle.locus.specs.Code.NearestSoFar.{nearestOf};
 

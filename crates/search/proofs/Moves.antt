@@ -8,11 +8,11 @@ use Rattle.locus.specs.Stored.{entryPlace, firstEntry}
 use Rattle.locus.specs.declared.Admission.the-variants.{Near}
 use Rattle.locus.specs.Admission.{admission}
 use Rattle.locus.specs.AdmissionLaws.{admitted-near}
-use Rattle.locus.specs.Pieces.{spanAbout}
+use Rattle.locus.specs.Code.Pieces.{spanAbout}
 use Rattle.locus.specs.PieceLaws.{span-ends, span-range}
 use Rattle.locus.specs.declared.Span.{Span}
 use Rattle.search.specs.Golden.{pieces, fibonacci, innerLow, innerHigh, State, nearer, start, step, after, mostSteps, stepsOf}
-use Rattle.search.specs.Found.{found}
+use Rattle.search.specs.Code.Found.{found}
 use Rattle.search.specs.GoldenLaws.{lengths, after-next, after-inside}
 use Rattle.search.specs.Code.Progress.{Begins, stateOf, Tracks, Lies, moved}
 use Rattle.search.specs.declared.Progress.{Progress}

@@ -1,2 +1,3 @@
--- What the contracts of functions inside the crate say; no reader of the rules needs it.
+-- What the code keeps of a search, and what its functions ask of each other, in terms of the states of `Golden`.
+pub mod Found
 pub mod Progress

@@ -1,4 +1,3 @@
 pub mod Golden
-pub mod Found
 pub mod GoldenLaws
 pub mod Code

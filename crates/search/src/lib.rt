@@ -6,9 +6,9 @@ ghost use lib.Dec.{ltb};
 ghost use Rattle.locus.specs.declared.Admission.the-variants.{Near};
 ghost use Rattle.locus.specs.Locus.{farOut, distanceAt};
 ghost use Rattle.locus.specs.Admission.{admission};
-ghost use Rattle.locus.specs.Pieces.{spanAbout};
+ghost use Rattle.locus.specs.Code.Pieces.{spanAbout};
 ghost use Rattle.search.specs.Golden.{stepsOf};
-ghost use Rattle.search.specs.Found.{found};
+ghost use Rattle.search.specs.Code.Found.{found};
 ghost use Rattle.search.specs.Code.Progress.{Begins, Tracks, Lies, moved};
 
 // F(16) and F(15) of Fibonacci's sequence (rule 3).

@@ -5,7 +5,7 @@ use denote.Ref.{now}
 use mir.Syntax.{w32}
 use mir.Facts.{toZ-ofZ}
 use Rattle.search.specs.declared.Search.{Search}
-use Rattle.search.specs.Found.{found}
+use Rattle.search.specs.Code.Found.{found}
 use Rattle.cct.proofs.Assembly.{best-on, accepted-from}
 use borrow.Author.Needs.{needs}
 use Rattle.cct.proofs.accepted_answer.Statement.{statement}

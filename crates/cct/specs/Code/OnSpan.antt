@@ -2,7 +2,7 @@
 use mathlib.Core.Path.{_≡_}
 use Prim.Native.Nat.{ℕ, _*_, _≤_, _<_}
 use Rattle.locus.specs.Locus.{distanceAt}
-use Rattle.locus.specs.Pieces.{AboutAnEntry}
+use Rattle.locus.specs.Code.Pieces.{AboutAnEntry}
 use Rattle.locus.specs.declared.Span.{Span}
 
 pub record OnSpan (span : Span) (u v place distance : ℕ) : Type 0 where

@@ -1,7 +1,7 @@
 -- From one entry to the next both coordinates rise, so that their lines are those of the definition.
 use mathlib.Core.Path.{refl}
 use Rattle.locus.specs.StoredLaws.{steady-u, steady-v}
-use Rattle.locus.specs.Pieces.{pieceFrom}
+use Rattle.locus.specs.Code.Pieces.{pieceFrom}
 use Rattle.locus.specs.Code.Lines.{Rises}
 use borrow.Author.Needs.{needs}
 use Rattle.locus.proofs.piece_from.Statement.{statement}

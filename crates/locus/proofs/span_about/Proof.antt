@@ -3,7 +3,7 @@ use mathlib.Core.Path.{_≡_, refl, ap, _∙_}
 use Prim.Native.Nat.{ℕ, _+_, _-_, _*_, _≤_}
 use native.Mathlib.Omega.{arith}
 use Rattle.locus.specs.Stored.{pieceLength, entryPlace, firstEntry, lastEntry}
-use Rattle.locus.specs.Pieces.{pieceFrom, spanAbout}
+use Rattle.locus.specs.Code.Pieces.{pieceFrom, spanAbout}
 use Rattle.locus.specs.declared.Piece.{Piece}
 use borrow.Author.Needs.{needs}
 use Rattle.locus.proofs.span_about.Statement.{statement}

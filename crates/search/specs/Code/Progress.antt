@@ -5,7 +5,7 @@ use Prim.Native.Nat.{ℕ, _+_, _-_, _*_, _≤_}
 use lib.Dec.{ltb}
 use Rattle.locus.specs.Stored.{entryPlace, lastPlace, firstEntry, lastEntry}
 use Rattle.locus.specs.AdmissionLaws.{Admitted}
-use Rattle.locus.specs.Pieces.{AboutAnEntry}
+use Rattle.locus.specs.Code.Pieces.{AboutAnEntry}
 use Rattle.locus.specs.declared.Span.{Span}
 use Rattle.search.specs.Golden.{pieces, fibonacci, innerLow, innerHigh, State, after}
 use Rattle.search.specs.declared.Progress.{Progress}
