@@ -44,7 +44,7 @@ duvAt u v place =
     let d : ℤ = pos (root (distanceAt u v place)) in
     cond (leb (locusV place) v) d (negℤ d)
 
--- a refused answer has its number and zeros elsewhere
+-- a refused answer: the refusal's number, and zero in every other field
 abbrev pub refused : Refusal → Answer
 refused r = record { place = 0; low = 0; high = 0; duv = pos 0; refusal = numberOf r; steps = 0; class = 0 }
 

@@ -1,7 +1,7 @@
 pub mod Answers
-pub mod AnswerLaws
 pub mod FloatAnswers
 pub mod RefusalLaws
+pub mod AnswerLaws
 pub mod FloatLaws
 pub mod Refinement
 pub mod RefinementProof
