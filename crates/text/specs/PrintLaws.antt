@@ -18,19 +18,10 @@ use Rattle.text.specs.declared.grammar.Line.the-variants.{Unreadable, Nu
 use Rattle.text.specs.Line.{space, digitZero}
 use Rattle.text.specs.Decimal.{decimal, signed}
 use Rattle.text.specs.DecimalLaws.{digits-short, signed-short}
+use Rattle.text.specs.Code.Halves.{fieldText, placesText, restText}
 use Rattle.text.specs.Print.{programEdges, classText, acceptedText, answerText, replyTo}
 
--- a space and a number
-abbrev pub fieldText : ℕ → List ℕ
-fieldText n = space ∷ decimal n
-
--- the first half of an accepted answer, and the second
-abbrev pub placesText : ℕ → ℕ → ℕ → List ℕ
-placesText place low high = digitZero ∷ (fieldText place ++ (fieldText low ++ fieldText high))
-
-abbrev pub restText : ℤ → ℕ → ℕ → List ℕ
-restText duv steps class = space ∷ (signed duv ++ (fieldText steps ++ (space ∷ classText class)))
-
+-- the two halves make up an accepted answer
 pub accepted-halves : (a : Answer) → acceptedText a ≡ placesText (a .place) (a .low) (a .high) ++ restText (a .duv) (a .steps) (a .class)
 accepted-halves a = simp append-assoc
 

@@ -14,7 +14,7 @@ ghost use Rattle.cct.specs.Answers.{answer};
 ghost use Rattle.text.specs.Code.Wrote.{Wrote};
 ghost use Rattle.text.specs.Decimal.{digitsOf, decimal, signed};
 ghost use Rattle.text.specs.Print.{programEdges, classText, answerText, replyTo, replyLine};
-ghost use Rattle.text.specs.PrintLaws.{fieldText, placesText, restText};
+ghost use Rattle.text.specs.Code.Halves.{fieldText, placesText, restText};
 
 const MINUS_SIGN: u8 = b'-';
 

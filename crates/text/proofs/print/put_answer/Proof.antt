@@ -6,7 +6,8 @@ use mir.Syntax.{w32}
 use mir.Val.{SFits}
 use borrow.Author.Tests.{eq-eqb, ne-eqb}
 use Rattle.text.specs.WroteLaws.{wrote-then, wrote-room, wrote-as}
-use Rattle.text.specs.PrintLaws.{placesText, restText, places-short, accepted-halves}
+use Rattle.text.specs.Code.Halves.{placesText, restText}
+use Rattle.text.specs.PrintLaws.{places-short, accepted-halves}
 use Rattle.arith.specs.SignedLaws.{back}
 use borrow.Author.Needs.{needs}
 use Rattle.text.proofs.print.put_answer.Statement.{statement}

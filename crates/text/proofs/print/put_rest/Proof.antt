@@ -6,7 +6,8 @@ use mir.Syntax.{w32}
 use mir.Val.{toZ, ofZ}
 use Rattle.text.specs.WroteLaws.{wrote-then, wrote-room, wrote-as}
 use Rattle.text.specs.DecimalLaws.{signed-short}
-use Rattle.text.specs.PrintLaws.{restText, field-short}
+use Rattle.text.specs.Code.Halves.{restText}
+use Rattle.text.specs.PrintLaws.{field-short}
 use Rattle.arith.specs.SignedLaws.{back}
 use borrow.Author.Needs.{needs}
 use Rattle.text.proofs.print.put_rest.Statement.{statement}
