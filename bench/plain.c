@@ -24,7 +24,7 @@ static uint32_t entry_place(uint32_t k) { return PIECE * (k + 2); }
 
 static point entry_point(uint32_t k) { return (point){TABLE_U[k], TABLE_V[k]}; }
 
-/* The locus at a place: straight between two entries, rounded to the nearest whole number, halves up. */
+/* The locus at a place: on the straight line between two entries, to the nearest whole number, halves up. */
 static point locus_point(uint32_t place) {
     uint32_t k = place / PIECE - 2;
     if (k > ENTRIES - 2) k = ENTRIES - 2;

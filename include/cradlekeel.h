@@ -62,8 +62,8 @@ typedef struct ck_answer {
     ck_whole whole;
 } ck_answer;
 
-/* `edges` are 2 to 32 class edges in kelvin, strictly rising, each from 1600 to 20001. Class j holds the temperatures from
- * edges[j] up to but not including edges[j + 1]; it is named exactly when `low`, `high` and `place` all lie in it.
+/* `edges` are 2 to 32 class edges in kelvin, from 1600 to 20001, each above the one before. Class j holds the temperatures
+ * from edges[j] up to but not including edges[j + 1]; it is named exactly when `low`, `high` and `place` all lie in it.
  *
  * `max_steps` bounds the golden-section steps that narrow the bracket; any number is taken, and over 14 is as 14. With
  * more steps the bracket lies within the one before, `place` is no farther from the reading, and a class once named stays.

@@ -30,7 +30,7 @@ STEPS = 14
 
 REASONS = {
     1: "the class edges must be 2 to 32 whole kelvins from 1600 to 20001, strictly rising",
-    2: "a number of the reading is infinite or not a number",
+    2: "a number of the reading is an infinity or a NaN",
     3: "a number of the reading is outside its range",
     4: "the tristimulus value Y is under 1",
     5: "the reading is more than 0.030 from every stored point of the blackbody locus",
@@ -121,7 +121,7 @@ def read_xy(x, y, edges=EDGES, steps=STEPS):
     >>> read_xy(0.3127, float("nan"))
     Traceback (most recent call last):
         ...
-    cradlekeel.Refusal: refusal 2: a number of the reading is infinite or not a number
+    cradlekeel.Refusal: refusal 2: a number of the reading is an infinity or a NaN
     """
     return _read("ck_read_xy", (x, y), edges, steps)
 

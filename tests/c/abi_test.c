@@ -140,7 +140,7 @@ static long run_vectors(const char *calls_path, const char *answers_path) {
 static const uint32_t GOOD_EDGES[] = {1600, 2500, 3500, 5000, 20001};
 enum { GOOD_COUNT = sizeof GOOD_EDGES / sizeof *GOOD_EDGES };
 
-/* Document 01: a refused answer has its number and zeros elsewhere. */
+/* A refusal: its number, and all bits zero in every other field. */
 static void expect_refused(ck_answer a, uint8_t refusal, const char *what) {
     const ck_whole *w = &a.whole;
     int zeros = !w->place && !w->low && !w->high && !w->duv && !w->steps && !w->class_index && !bits_of(a.kelvin) && !bits_of(a.duv);

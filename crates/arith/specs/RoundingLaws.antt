@@ -1,6 +1,6 @@
 -- Laws of the rounded quotient.
 use mathlib.Core.Path.{_≡_, ap, _∙_}
-use Prim.Native.Nat.{ℕ, zero, suc, _+_, _*_, _/_, _≤_, _<_}
+use Prim.Native.Nat.{ℕ, zero, suc, _+_, _*_, _≤_, _<_}
 use native.Mathlib.Nat.{div-zero, zero-lt-suc, mul-pos, mul-left-comm, suc-mul, le-of-suc-le-suc, div-lt-iff-lt-mul, div-eq-of-lt-le}
 use native.Mathlib.Omega.{arith}
 use lib.Dec.{lit<}

@@ -6,7 +6,7 @@ use reading::Reading;
 use refusal::Refusal;
 ghost use mathlib.Core.Path.{_≡_};
 ghost use mathlib.Core.Bool.{cond};
-ghost use Prim.Native.Nat.{_≤_, _<_};
+ghost use Prim.Native.Nat.{_<_};
 ghost use lib.Dec.{leb};
 ghost use lib.IntN.{pos, negℤ};
 ghost use Rattle.reading.specs.Convert.{convertReading, convertWhole};
@@ -15,9 +15,6 @@ ghost use Rattle.locus.specs.Code.Pieces.{spanAbout};
 ghost use Rattle.cct.specs.Answers.{duvAt, refused, accepted, answered, checkedPoint, answer};
 ghost use Rattle.cct.specs.Code.OnSpan.{OnSpan};
 ghost use Rattle.cct.specs.FloatAnswers.{floatAnswer};
-
-// The micro in a unit of u, v and Duv.
-const MICRO: u32 = 1000000;
 
 // The whole-number answer. A refused one has its number and zeros in every other field.
 #[repr(C)]
@@ -141,7 +138,7 @@ pub fn float_answer(answer: Answer) -> FloatAnswer
     if refusal == 0 {
         FloatAnswer {
             kelvin: (classes::KELVIN_PLACES as f64) / (answer.place as f64),
-            duv: (answer.duv as f64) / (MICRO as f64),
+            duv: (answer.duv as f64) / (reading::MICRO as f64),
             whole: answer,
         }
     } else {

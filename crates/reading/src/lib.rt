@@ -34,7 +34,7 @@ struct Quantity {
 }
 
 // Document 01's "micro": parts of a coordinate's unit.
-const MICRO: u32 = 1000000;
+pub const MICRO: u32 = 1000000;
 
 // u, v, u', v', x or y.
 const COORDINATE: Quantity = Quantity {

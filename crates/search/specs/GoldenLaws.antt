@@ -195,7 +195,3 @@ module _ (d : ℕ → ℕ) (m : ℕ) (m≥1 : 1 ≤ m) (m≤24 : m ≤ 24) where
   -- demand 3: the width for the count reported
   pub steps-width : (n : ℕ) → Wide (pieces m) (stepsOf n) (after d m (stepsOf n))
   steps-width n = after-width (stepsOf n) (omega arith)
-
--- demand 3: from the most steps on, the number of steps is the same
-pub steps-same : (n₁ n₂ : ℕ) → mostSteps ≤ n₁ → n₁ ≤ n₂ → stepsOf n₁ ≡ stepsOf n₂
-steps-same n₁ n₂ h l = omega arith

@@ -15,8 +15,8 @@ use Rattle.cct.specs.declared.Answer.{Answer}
 use Rattle.cct.specs.Answers.{answer}
 use Rattle.text.specs.declared.grammar.Line.{Line}
 use Rattle.text.specs.declared.grammar.Line.the-variants.{Unreadable, Numbers}
-use Rattle.text.specs.Line.{space, digitZero}
-use Rattle.text.specs.Decimal.{decimal, signed}
+use Rattle.text.specs.Line.{space}
+use Rattle.text.specs.Decimal.{signed}
 use Rattle.text.specs.DecimalLaws.{digits-short, signed-short}
 use Rattle.text.specs.Code.Halves.{fieldText, placesText, restText}
 use Rattle.text.specs.Print.{programEdges, classText, acceptedText, answerText, replyTo}
