@@ -20,22 +20,14 @@ ENTRY_CRATES = ("cct", "cct_c", "text")
 
 # (function, fault): why it is so.
 EXCEPTIONS = {
-    ("arith::nearest_quotient", "requires"): "nothing is divided by zero",
-    ("classes::class_of", "requires"): "a class is a number of 8 bits; the edges that callers hand over are at most 32",
-    ("locus::admit", "requires"): "the tables are lent, and distances fit 64 bits for coordinates up to 4,000,000",
-    ("locus::distance_on", "requires"): "a span made for its places, and coordinates up to 4,000,000",
-    ("locus::piece_at", "requires"): "a place of the span",
-    ("locus::piece_at", "equation"): "which line through the piece is stored is left open; what it gives is promised",
+    ("locus::admit", "requires"): "the tables are lent, so that a caller makes them once",
+    ("locus::distance_on", "requires"): "a span made for its places, and coordinates whose squares fit 64 bits",
     ("locus::point_at", "requires"): "the tables are lent, and only places of the locus have a point",
+    ("locus::point_on", "requires"): "a span made for its places",
     ("locus::span_about", "requires"): "the tables are lent, and entries are numbered from 1 to 24",
-    ("locus::span_about", "equation"): "which lines through the pieces are stored is left open; what they give is promised",
-    ("locus::squared_distance", "requires"): "distances fit 64 bits for coordinates up to 4,000,000",
-    ("locus::v_on", "requires"): "a piece that holds the place",
-    ("search::run", "requires"): "a span about the entry with the entry's distance, and at most 14 steps",
-    ("text::block", "equation"): "how far it reads depends on the room; the record Blocked says what was read and written",
-    ("text::block", "unchanged input"): "the input is only read",
-    ("text::finish", "equation"): "the record Wrote says what was written, where, and that the rest is kept",
-    ("text::parse_line", "unchanged bytes"): "the line is only read",
+    ("search::run", "requires"): "an admitted reading with the span about its entry, as admit and span_about hand them over",
+    ("text::block", "equation"): "the record Blocked gives every field, and the whole buffer, by an equation each",
+    ("text::finish", "equation"): "the record Wrote gives the end and the whole buffer by an equation each",
 }
 
 EQUATION = re.compile(r"^λ (?P<result>\w+)\. ⌜ (?P=result) ≡ (?P<value>.+) ⌝$")

@@ -4,6 +4,6 @@ pub mod Admission
 pub mod StoredLaws
 pub mod LocusLaws
 pub mod AdmissionLaws
-pub mod BehindLaw
+pub mod BehindLaws
 pub mod PieceLaws
 pub mod Code
