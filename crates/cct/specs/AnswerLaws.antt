@@ -20,7 +20,8 @@ use Rattle.search.specs.Golden.{after, stepsOf}
 use Rattle.search.specs.GoldenLaws.{after-range, after-near}
 use Rattle.cct.specs.declared.Answer.{Answer}
 use Rattle.cct.specs.Answers.{duvAt, accepted, answer}
-use Rattle.cct.specs.RefusalLaws.{Clear, Decided, refusal, clear, decided, condition-refused, clear-accepted}
+use Rattle.cct.specs.Conditions.{Clear}
+use Rattle.cct.specs.RefusalLaws.{Decided, refusal, clear, decided, condition-refused, clear-accepted}
 
 -- a place of the locus, and a Duv no farther than the limit of refusal 5
 pub record Bounded (a : Answer) : Type 0 where

@@ -1,5 +1,6 @@
 pub mod Answers
 pub mod FloatAnswers
+pub mod Conditions
 pub mod RefusalLaws
 pub mod AnswerLaws
 pub mod FloatLaws

@@ -6,7 +6,7 @@ use Prim.Native.Nat.{ℕ, _≤_}
 use native.Mathlib.Omega.{arith}
 use Rattle.reading.specs.declared.Reading.{Reading}
 use Rattle.reading.specs.declared.Converted.{Converted}
-use Rattle.reading.specs.Convert.{convertReading, convertWhole}
+use Rattle.reading.specs.Convert.{convertReading, convertMicro}
 use Rattle.locus.specs.Locus.{distanceAt}
 use Rattle.locus.specs.Admission.{nearestEntry}
 use Rattle.locus.specs.AdmissionLaws.{nearest-range}
@@ -18,7 +18,8 @@ use Rattle.classes.specs.ClassLaws.{class-kept}
 use Rattle.cct.specs.Answers.{accepted, answer}
 use Rattle.cct.specs.declared.Answer.{Answer}
 use Rattle.cct.specs.FloatAnswers.{floatAnswer}
-use Rattle.cct.specs.RefusalLaws.{Clear, Decided, refusal, clear, decided, condition-refused, clear-accepted}
+use Rattle.cct.specs.Conditions.{Clear}
+use Rattle.cct.specs.RefusalLaws.{Decided, refusal, clear, decided, condition-refused, clear-accepted}
 use Rattle.cct.specs.Refinement.{Accepted, Narrower, Refines, both-refused, both-accepted, Demand3}
 
 -- the accepted answers to one reading
@@ -82,8 +83,8 @@ pub reading-refines : (es : List ℕ) (reading : Reading) (n₁ n₂ : ℕ) → 
 reading-refines es reading = demand-3 es (convertReading reading)
 
 -- for u and v as whole numbers
-pub uv-refines : (es : List ℕ) (u v n₁ n₂ : ℕ) → n₁ ≤ n₂ → Demand3 es (convertWhole u v) n₁ n₂
-uv-refines es u v = demand-3 es (convertWhole u v)
+pub micro-refines : (es : List ℕ) (u v n₁ n₂ : ℕ) → n₁ ≤ n₂ → Demand3 es (convertMicro u v) n₁ n₂
+micro-refines es u v = demand-3 es (convertMicro u v)
 
 -- a class that is named is never changed by more steps
 pub class-never-changes : (es : List ℕ) (c : Converted) (n₁ n₂ : ℕ) → n₁ ≤ n₂ → (answer es c n₁ .class ≡ noClass → ⊥) → answer es c n₂ .class ≡ answer es c n₁ .class

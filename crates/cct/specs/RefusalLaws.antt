@@ -14,20 +14,7 @@ use Rattle.locus.specs.Admission.{nearestEntry, tooFar, past, admission}
 use Rattle.classes.specs.Edges.{edgesValid}
 use Rattle.cct.specs.declared.Answer.{Answer}
 use Rattle.cct.specs.Answers.{checkedPoint, checked, refused, accepted, answer}
-
--- the edges are valid, and the reading was converted to the point (u, v)
-pub record At (es : List ℕ) (c : Converted) (u v : ℕ) : Type 0 where
-  pub edges : edgesValid es ≡ true
-  pub point : c ≡ converted.Point u v
-
--- the condition of each refusal, with those before it not met. Between 1 and 5 comes what the conversion refused: 2, 3 or 4, whose
--- conditions stand in `reading`
-pub data Condition (es : List ℕ) (c : Converted) : Refusal → Type 0 where
-  bad-edges : edgesValid es ≡ false → Condition es c BadEdges
-  not-converted : (r : Refusal) → edgesValid es ≡ true → c ≡ converted.Refused r → Condition es c r
-  too-far : (u v : ℕ) → At es c u v → tooFar u v ≡ true → Condition es c TooFar
-  too-hot : (u v : ℕ) → At es c u v → tooFar u v ≡ false → past u v 1 2 ≡ true → Condition es c TooHot
-  too-cool : (u v : ℕ) → At es c u v → tooFar u v ≡ false → past u v 1 2 ≡ false → past u v 24 23 ≡ true → Condition es c TooCool
+use Rattle.cct.specs.Conditions.{At, Condition, bad-edges, not-converted, too-far, too-hot, too-cool, Clear}
 
 -- under its condition a refusal is given, whatever the steps allowed
 pub condition-refused : (es : List ℕ) (c : Converted) (r : Refusal) → Condition es c r → (n : ℕ) → answer es c n ≡ refused r
@@ -38,14 +25,7 @@ condition-refused es c r (too-far u v a f) n = rw (a .edges, a .point, f) refl
 condition-refused es c r (too-hot u v a f h) n = rw (a .edges, a .point, f, h) refl
 condition-refused es c r (too-cool u v a f h k) n = rw (a .edges, a .point, f, h, k) refl
 
--- no condition is met: the reading is answered
-pub record Clear (es : List ℕ) (c : Converted) (u v : ℕ) : Type 0 where
-  pub at : At es c u v
-  pub near : tooFar u v ≡ false
-  pub not-hot : past u v 1 2 ≡ false
-  pub not-cool : past u v 24 23 ≡ false
-
--- it gets the accepted answer about its nearest entry
+-- where no condition is met, the reading is answered
 pub clear-accepted : (es : List ℕ) (c : Converted) (u v : ℕ) → Clear es c u v → (n : ℕ) → answer es c n ≡ accepted es n u v (nearestEntry u v)
 unfolding answer checked checkedPoint admission
 clear-accepted es c u v k n = rw (k .at .edges, k .at .point, k .near, k .not-hot, k .not-cool) refl

@@ -9,7 +9,7 @@ ghost use mathlib.Core.Bool.{cond};
 ghost use Prim.Native.Nat.{_<_};
 ghost use lib.Dec.{leb};
 ghost use lib.IntN.{pos, negℤ};
-ghost use Rattle.reading.specs.Convert.{convertReading, convertWhole};
+ghost use Rattle.reading.specs.Convert.{convertReading, convertMicro};
 ghost use Rattle.locus.specs.Admission.{admission};
 ghost use Rattle.locus.specs.Code.Pieces.{spanAbout};
 ghost use Rattle.cct.specs.Answers.{duvAt, refused, accepted, answered, checkedPoint, answer};
@@ -168,11 +168,11 @@ pub fn whole_answer_reading(reading: Reading, edges: &[u32], max_steps: u32) -> 
 }
 
 // The whole-number answer to u and v in micro.
-pub fn whole_answer_uv(u: u32, v: u32, edges: &[u32], max_steps: u32) -> Answer
-    ensures answers { λ r. ⌜ r ≡ answer (now (edges .entry)) (convertWhole u v) «max_steps» ⌝ }
+pub fn whole_answer_micro(u: u32, v: u32, edges: &[u32], max_steps: u32) -> Answer
+    ensures answers { λ r. ⌜ r ≡ answer (now (edges .entry)) (convertMicro u v) «max_steps» ⌝ }
     ensures unchanged { λ r. ⌜ now (edges .exit) ≡ now (edges .entry) ⌝ }
 {
-    whole_answer_converted(reading::convert_whole(u, v), edges, max_steps)
+    whole_answer_converted(reading::convert_micro(u, v), edges, max_steps)
 }
 
 // The answer to a reading of any of the four kinds.
@@ -184,9 +184,9 @@ pub fn answer_reading(reading: Reading, edges: &[u32], max_steps: u32) -> FloatA
 }
 
 // The answer to u and v in micro.
-pub fn answer_uv(u: u32, v: u32, edges: &[u32], max_steps: u32) -> FloatAnswer
-    ensures answers { λ r. ⌜ r ≡ floatAnswer (answer (now (edges .entry)) (convertWhole u v) «max_steps») ⌝ }
+pub fn answer_micro(u: u32, v: u32, edges: &[u32], max_steps: u32) -> FloatAnswer
+    ensures answers { λ r. ⌜ r ≡ floatAnswer (answer (now (edges .entry)) (convertMicro u v) «max_steps») ⌝ }
     ensures unchanged { λ r. ⌜ now (edges .exit) ≡ now (edges .entry) ⌝ }
 {
-    answer_converted(reading::convert_whole(u, v), edges, max_steps)
+    answer_converted(reading::convert_micro(u, v), edges, max_steps)
 }

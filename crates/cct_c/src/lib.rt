@@ -2,7 +2,7 @@
 use cct::FloatAnswer;
 use reading::Reading;
 ghost use mathlib.Core.Path.{_≡_};
-ghost use Rattle.reading.specs.Convert.{convertReading, convertWhole};
+ghost use Rattle.reading.specs.Convert.{convertReading, convertMicro};
 ghost use Rattle.cct.specs.Answers.{answer};
 ghost use Rattle.cct.specs.FloatAnswers.{floatAnswer};
 
@@ -12,8 +12,7 @@ pub extern "C" fn ck_read_uv(u: f32, v: f32, edges: &[u32], max_steps: u32) -> F
     ensures answers { λ r. ⌜ r ≡ floatAnswer (answer (now (edges .entry)) (convertReading (Reading.Uv u v)) «max_steps») ⌝ }
     ensures unchanged { λ _. ⌜ now (edges .exit) ≡ now (edges .entry) ⌝ }
 {
-    let converted = reading::convert(Reading::Uv(u, v));
-    cct::answer_converted(converted, edges, max_steps)
+    cct::answer_reading(Reading::Uv(u, v), edges, max_steps)
 }
 
 // CIE 1976 u', v'.
@@ -27,8 +26,7 @@ pub extern "C" fn ck_read_uvp(
     ensures answers { λ r. ⌜ r ≡ floatAnswer (answer (now (edges .entry)) (convertReading (Reading.UvPrime «u_prime» «v_prime»)) «max_steps») ⌝ }
     ensures unchanged { λ _. ⌜ now (edges .exit) ≡ now (edges .entry) ⌝ }
 {
-    let converted = reading::convert(Reading::UvPrime(u_prime, v_prime));
-    cct::answer_converted(converted, edges, max_steps)
+    cct::answer_reading(Reading::UvPrime(u_prime, v_prime), edges, max_steps)
 }
 
 // CIE 1931 x, y.
@@ -37,8 +35,7 @@ pub extern "C" fn ck_read_xy(x: f32, y: f32, edges: &[u32], max_steps: u32) -> F
     ensures answers { λ r. ⌜ r ≡ floatAnswer (answer (now (edges .entry)) (convertReading (Reading.Xy x y)) «max_steps») ⌝ }
     ensures unchanged { λ _. ⌜ now (edges .exit) ≡ now (edges .entry) ⌝ }
 {
-    let converted = reading::convert(Reading::Xy(x, y));
-    cct::answer_converted(converted, edges, max_steps)
+    cct::answer_reading(Reading::Xy(x, y), edges, max_steps)
 }
 
 // Tristimulus values X, Y, Z.
@@ -47,15 +44,14 @@ pub extern "C" fn ck_read_xyz(x: f32, y: f32, z: f32, edges: &[u32], max_steps: 
     ensures answers { λ r. ⌜ r ≡ floatAnswer (answer (now (edges .entry)) (convertReading (Reading.Xyz x y z)) «max_steps») ⌝ }
     ensures unchanged { λ _. ⌜ now (edges .exit) ≡ now (edges .entry) ⌝ }
 {
-    let converted = reading::convert(Reading::Xyz(x, y, z));
-    cct::answer_converted(converted, edges, max_steps)
+    cct::answer_reading(Reading::Xyz(x, y, z), edges, max_steps)
 }
 
 // CIE 1960 u and v as whole numbers in micro.
 #[no_mangle]
 pub extern "C" fn ck_read_micro(u: u32, v: u32, edges: &[u32], max_steps: u32) -> FloatAnswer
-    ensures answers { λ r. ⌜ r ≡ floatAnswer (answer (now (edges .entry)) (convertWhole u v) «max_steps») ⌝ }
+    ensures answers { λ r. ⌜ r ≡ floatAnswer (answer (now (edges .entry)) (convertMicro u v) «max_steps») ⌝ }
     ensures unchanged { λ _. ⌜ now (edges .exit) ≡ now (edges .entry) ⌝ }
 {
-    cct::answer_uv(u, v, edges, max_steps)
+    cct::answer_micro(u, v, edges, max_steps)
 }

@@ -9,7 +9,7 @@ ghost use Rattle.classes.specs.Classes.{noClass, atLeast, below, classOf
 pub const KELVIN_PLACES: u64 = 103360000;
 
 // Given where no class is named.
-const NO_CLASS: u8 = 255;
+pub const NO_CLASS: u8 = 255;
 
 // Whether an edge is from 1600 to 20001.
 fn in_range(edge: u32) -> bool

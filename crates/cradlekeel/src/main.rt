@@ -2,7 +2,7 @@
 use text::Scan;
 ghost use Prim.Native.Nat.{_≤_};
 ghost use lib.ListN.{length};
-ghost use Rattle.text.specs.Code.Block.{lineRoom};
+ghost use Rattle.text.specs.Block.{lineRoom};
 ghost use Rattle.cradlekeel.specs.Code.Turns.{AfterBlock, AfterRead};
 
 // What one read of the input came to.

@@ -14,8 +14,8 @@ use Rattle.reading.specs.declared.Converted.{Converted}
 use Rattle.reading.specs.declared.Converted.the-variants.{Point, Refused}
 
 -- "Readings": the whole-number entry point takes 0 to 4,000,000.
-abbrev pub wholeLimit : ℕ
-wholeLimit = 4000000
+abbrev pub microLimit : ℕ
+microLimit = 4000000
 
 -- Refusal 4 is given for a whole-number Y under 100,000.
 abbrev pub leastY : ℕ
@@ -67,5 +67,5 @@ convertReading (Xy x y) = ofCoordinates ofXy x y
 convertReading (Xyz x y z) = ofTristimulus x y z
 
 -- "Readings": u and v as whole numbers in micro; refusal 3 over the limit.
-abbrev pub convertWhole : ℕ → ℕ → Converted
-convertWhole u v = cond (leb u wholeLimit && leb v wholeLimit) (Point u v) (Refused OutOfRange)
+abbrev pub convertMicro : ℕ → ℕ → Converted
+convertMicro u v = cond (leb u microLimit && leb v microLimit) (Point u v) (Refused OutOfRange)

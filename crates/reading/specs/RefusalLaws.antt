@@ -10,32 +10,12 @@ use Rattle.arith.specs.TestLaws.{first-fails, second-fails}
 use Rattle.refusal.specs.declared.Refusal.{Refusal}
 use Rattle.refusal.specs.declared.Refusal.the-variants.{NotFinite, OutOfRange, TooDark}
 use Rattle.reading.specs.Whole.{coordinate, tristimulus, inRange, toWhole}
-use Rattle.reading.specs.Convert.{wholeLimit, leastY, judged, ofUv, ofUvPrime, ofXy, ofXyz, ofCoordinates, ofTristimulus, convertReading, convertWhole}
+use Rattle.reading.specs.Conditions.{allFinite, allInRange, isDark, ReadingCondition, not-finite, out-of-range, too-dark, MicroCondition, u-over, v-over}
+use Rattle.reading.specs.Convert.{microLimit, leastY, judged, ofUv, ofUvPrime, ofXy, ofXyz, ofCoordinates, ofTristimulus, convertReading, convertMicro}
 use Rattle.reading.specs.declared.Reading.{Reading}
 use Rattle.reading.specs.declared.Reading.the-variants.{Uv, UvPrime, Xy, Xyz}
 use Rattle.reading.specs.declared.Converted.{Converted}
 use Rattle.reading.specs.declared.Converted.the-variants.{Point, Refused}
-
--- no float of a reading is infinite or a NaN
-abbrev pub allFinite : Reading → Bool
-allFinite (Uv u v) = finite u && finite v
-allFinite (UvPrime u v) = finite u && finite v
-allFinite (Xy x y) = finite x && finite y
-allFinite (Xyz x y z) = finite x && finite y && finite z
-
--- every float of a reading is in its range
-abbrev pub allInRange : Reading → Bool
-allInRange (Uv u v) = inRange coordinate u && inRange coordinate v
-allInRange (UvPrime u v) = inRange coordinate u && inRange coordinate v
-allInRange (Xy x y) = inRange coordinate x && inRange coordinate y
-allInRange (Xyz x y z) = inRange tristimulus x && inRange tristimulus y && inRange tristimulus z
-
--- tristimulus values whose whole-number Y is under `leastY`
-abbrev pub isDark : Reading → Bool
-isDark (Uv u v) = false
-isDark (UvPrime u v) = false
-isDark (Xy x y) = false
-isDark (Xyz x y z) = ltb (toWhole tristimulus y) leastY
 
 -- the point that a reading's whole numbers come to by the rule of its kind
 abbrev pub byKind : Reading → Converted
@@ -51,12 +31,6 @@ in-order (Uv u v) = refl
 in-order (UvPrime u v) = refl
 in-order (Xy x y) = refl
 in-order (Xyz x y z) = refl
-
--- the condition of each refusal of a reading, with those before it not met
-pub data ReadingCondition (r : Reading) : Refusal → Type 0 where
-  not-finite : allFinite r ≡ false → ReadingCondition r NotFinite
-  out-of-range : allFinite r ≡ true → allInRange r ≡ false → ReadingCondition r OutOfRange
-  too-dark : allFinite r ≡ true → allInRange r ≡ true → isDark r ≡ true → ReadingCondition r TooDark
 
 -- under its condition a refusal is given
 pub reading-condition-refused : (r : Reading) (s : Refusal) → ReadingCondition r s → convertReading r ≡ Refused s
@@ -95,22 +69,18 @@ reading-refused-condition r s e = go (allFinite r) (allInRange r) (isDark r) ref
     go true true true a b c = given (too-dark a b c)
     go true true false a b c = never (is-point r .2) (sym (clear-point r a b c) ∙ e)
 
--- the conditions of two whole numbers: u or v is over the limit
-pub data WholeCondition (u v : ℕ) : Refusal → Type 0 where
-  u-over : wholeLimit < u → WholeCondition u v OutOfRange
-  v-over : wholeLimit < v → WholeCondition u v OutOfRange
+-- the same of two whole numbers
+pub micro-condition-refused : (u v : ℕ) (s : Refusal) → MicroCondition u v s → convertMicro u v ≡ Refused s
+micro-condition-refused u v s (u-over h) = rw (first-fails (leb v microLimit) (lt-leb u microLimit h)) refl
+micro-condition-refused u v s (v-over h) = rw (second-fails (leb u microLimit) (lt-leb v microLimit h)) refl
 
-pub whole-condition-refused : (u v : ℕ) (s : Refusal) → WholeCondition u v s → convertWhole u v ≡ Refused s
-whole-condition-refused u v s (u-over h) = rw (first-fails (leb v wholeLimit) (lt-leb u wholeLimit h)) refl
-whole-condition-refused u v s (v-over h) = rw (second-fails (leb u wholeLimit) (lt-leb v wholeLimit h)) refl
-
-pub whole-refused-condition : (u v : ℕ) (s : Refusal) → convertWhole u v ≡ Refused s → WholeCondition u v s
-whole-refused-condition u v s = go (leb u wholeLimit) (leb v wholeLimit) refl refl
+pub micro-refused-condition : (u v : ℕ) (s : Refusal) → convertMicro u v ≡ Refused s → MicroCondition u v s
+micro-refused-condition u v s = go (leb u microLimit) (leb v microLimit) refl refl
   where
-    same : {c : Converted} → c ≡ Refused OutOfRange → c ≡ Refused s → WholeCondition u v OutOfRange → WholeCondition u v s
-    same p q k = let e : OutOfRange ≡ s = cc in subst (WholeCondition u v) e k
+    same : {c : Converted} → c ≡ Refused OutOfRange → c ≡ Refused s → MicroCondition u v OutOfRange → MicroCondition u v s
+    same p q k = let e : OutOfRange ≡ s = cc in subst (MicroCondition u v) e k
 
-    go : (a b : Bool) → leb u wholeLimit ≡ a → leb v wholeLimit ≡ b → cond (a && b) (Point u v) (Refused OutOfRange) ≡ Refused s → WholeCondition u v s
-    go false b x y e = same refl e (u-over (leb-false u wholeLimit x))
-    go true false x y e = same refl e (v-over (leb-false v wholeLimit y))
+    go : (a b : Bool) → leb u microLimit ≡ a → leb v microLimit ≡ b → cond (a && b) (Point u v) (Refused OutOfRange) ≡ Refused s → MicroCondition u v s
+    go false b x y e = same refl e (u-over (leb-false u microLimit x))
+    go true false x y e = same refl e (v-over (leb-false v microLimit y))
     go true true x y e = never refl e

@@ -7,7 +7,7 @@ ghost use lib.Ieee.Scale.{finite};
 ghost use Rattle.arith.specs.Units.{micro};
 ghost use Rattle.reading.specs.Whole.{inRange, toWhole};
 ghost use Rattle.reading.specs.Code.Product.{IsProduct};
-ghost use Rattle.reading.specs.Convert.{pointOver, ofUv, ofUvPrime, ofXy, ofXyz, ofCoordinates, ofTristimulus, convertReading, convertWhole};
+ghost use Rattle.reading.specs.Convert.{pointOver, ofUv, ofUvPrime, ofXy, ofXyz, ofCoordinates, ofTristimulus, convertReading, convertMicro};
 
 // A reading of one of the four kinds.
 pub enum Reading {
@@ -49,7 +49,7 @@ const TRISTIMULUS: Quantity = Quantity {
 };
 
 // The largest u and v that are taken as whole numbers.
-const WHOLE_LIMIT: u32 = 4000000;
+const MICRO_LIMIT: u32 = 4000000;
 
 // The least whole-number Y that is taken.
 const LEAST_Y: u32 = 100000;
@@ -123,7 +123,7 @@ fn of_xyz(x: u32, y: u32, z: u32) -> Converted
 }
 
 // Two coordinates of any of the three kinds as whole numbers, or the reading's refusal.
-fn coordinates(x: f32, y: f32) -> Converted
+fn of_coordinates(x: f32, y: f32) -> Converted
     ensures { λ r. ⌜ r ≡ ofCoordinates ofUv x y ⌝ }
 {
     if !(is_finite(x) & is_finite(y)) {
@@ -136,7 +136,7 @@ fn coordinates(x: f32, y: f32) -> Converted
 }
 
 // u and v from three tristimulus values, or the reading's refusal.
-fn tristimulus(x: f32, y: f32, z: f32) -> Converted
+fn of_tristimulus(x: f32, y: f32, z: f32) -> Converted
     ensures { λ r. ⌜ r ≡ ofTristimulus x y z ⌝ }
 {
     if !(is_finite(x) & is_finite(y) & is_finite(z)) {
@@ -157,24 +157,24 @@ pub fn convert(reading: Reading) -> Converted
     ensures { λ r. ⌜ r ≡ convertReading reading ⌝ }
 {
     match reading {
-        Reading::Uv(u, v) => coordinates(u, v),
-        Reading::UvPrime(u, v) => match coordinates(u, v) {
+        Reading::Uv(u, v) => of_coordinates(u, v),
+        Reading::UvPrime(u, v) => match of_coordinates(u, v) {
             Converted::Point(u, v) => of_uv_prime(u, v),
             Converted::Refused(refusal) => Converted::Refused(refusal),
         },
-        Reading::Xy(x, y) => match coordinates(x, y) {
+        Reading::Xy(x, y) => match of_coordinates(x, y) {
             Converted::Point(x, y) => of_xy(x, y),
             Converted::Refused(refusal) => Converted::Refused(refusal),
         },
-        Reading::Xyz(x, y, z) => tristimulus(x, y, z),
+        Reading::Xyz(x, y, z) => of_tristimulus(x, y, z),
     }
 }
 
 // What u and v in micro come to: the point itself, unless one is over the limit.
-pub fn convert_whole(u: u32, v: u32) -> Converted
-    ensures { λ r. ⌜ r ≡ convertWhole u v ⌝ }
+pub fn convert_micro(u: u32, v: u32) -> Converted
+    ensures { λ r. ⌜ r ≡ convertMicro u v ⌝ }
 {
-    if (u <= WHOLE_LIMIT) & (v <= WHOLE_LIMIT) {
+    if (u <= MICRO_LIMIT) & (v <= MICRO_LIMIT) {
         Converted::Point(u, v)
     } else {
         Converted::Refused(Refusal::OutOfRange)

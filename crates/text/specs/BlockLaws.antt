@@ -13,7 +13,7 @@ use Rattle.text.specs.declared.grammar.Scan.{Scan}
 use Rattle.text.specs.declared.stream.Done.{Done}
 use Rattle.text.specs.Code.Scan.{isEmpty, scanLine}
 use Rattle.text.specs.Print.{replyLine}
-use Rattle.text.specs.Code.Block.{emitted, nextScan, emits, leaves, closes, lineRoom, reads, Blocked}
+use Rattle.text.specs.Block.{emitted, nextScan, emits, leaves, closes, lineRoom, reads, Blocked}
 
 -- a cut in two
 pub leaves-append : (s : Scan) (l m : List ℕ) → leaves s (l ++ m) ≡ leaves (leaves s l) m

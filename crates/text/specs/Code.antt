@@ -1,6 +1,4 @@
--- What the contracts say on the way from bytes to bytes: a line read byte by byte, a block, an append, half an answer. `whole-output` of
--- StreamLaws ties it to the rules.
+-- How the code reads a line a byte at a time, and prints an answer in two halves. `scan-line` of ScanLaws and `accepted-halves` of PrintLaws
+-- tie both to the rules.
 pub mod Scan
-pub mod Block
-pub mod Wrote
 pub mod Halves

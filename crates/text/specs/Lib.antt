@@ -5,9 +5,11 @@ pub mod Decimal
 pub mod DecimalLaws
 pub mod Print
 pub mod PrintLaws
+pub mod Wrote
 pub mod WroteLaws
 pub mod WorkedCases
 pub mod Stream
+pub mod Block
 pub mod BlockLaws
 pub mod StreamLaws
 pub mod Code

@@ -5,7 +5,7 @@ use mathlib.Core.Bool.{cond}
 use lib.Dec.{eqb}
 use Rattle.refusal.specs.Number.{numberOf}
 use Rattle.refusal.specs.declared.Refusal.the-variants.{BadLine}
-use Rattle.reading.specs.Convert.{convertWhole}
+use Rattle.reading.specs.Convert.{convertMicro}
 use Rattle.classes.specs.Classes.{noClass}
 use Rattle.cct.specs.declared.Answer.{Answer}
 use Rattle.cct.specs.Answers.{answer}
@@ -40,7 +40,7 @@ programEdges = 1600 ∷ 2500 ∷ 3500 ∷ 5000 ∷ 20001 ∷ []
 -- the answer to what a line says: refusal 8 comes before all others
 unfoldable pub replyTo : Line → List ℕ
 replyTo Unreadable = decimal (numberOf BadLine)
-replyTo (Numbers u v n) = answerText (answer programEdges (convertWhole u v) n)
+replyTo (Numbers u v n) = answerText (answer programEdges (convertMicro u v) n)
 
 -- with its newline
 abbrev pub replyLine : Line → List ℕ

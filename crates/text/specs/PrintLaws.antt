@@ -9,7 +9,7 @@ use lib.Dec.{eqb}
 use Rattle.arith.specs.TestLaws.{cond-both}
 use Rattle.refusal.specs.Number.{numberOf}
 use Rattle.refusal.specs.declared.Refusal.the-variants.{BadLine}
-use Rattle.reading.specs.Convert.{convertWhole}
+use Rattle.reading.specs.Convert.{convertMicro}
 use Rattle.classes.specs.Classes.{noClass}
 use Rattle.cct.specs.declared.Answer.{Answer}
 use Rattle.cct.specs.Answers.{answer}
@@ -50,4 +50,4 @@ answer-short a =
 pub reply-short : (l : Line) → length (replyTo l) ≤ 68
 unfolding replyTo
 reply-short Unreadable = omega (arith, digits-short 10 (numberOf BadLine))
-reply-short (Numbers u v n) = answer-short (answer programEdges (convertWhole u v) n)
+reply-short (Numbers u v n) = answer-short (answer programEdges (convertMicro u v) n)

@@ -8,10 +8,10 @@ use Rattle.text.specs.Print.{answerLine}
 abbrev pub lines : List ℕ → List (List ℕ)
 lines input = split newline [] input
 
--- the answers to lines, in order
-abbrev pub answers : List (List ℕ) → List ℕ
-answers [] = []
-answers (l ∷ ls) = answerLine l ++ answers ls
+-- the replies to lines, in order
+abbrev pub replies : List (List ℕ) → List ℕ
+replies [] = []
+replies (l ∷ ls) = answerLine l ++ replies ls
 
 unfoldable pub outputOf : List ℕ → List ℕ
-outputOf input = answers (lines input)
+outputOf input = replies (lines input)

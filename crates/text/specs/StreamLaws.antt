@@ -1,4 +1,4 @@
--- THE THEOREM of the text program: cut the input into blocks in any way, and the output is the answers to its lines in order.
+-- THE THEOREM of the text program: cut the input into blocks in any way, and the output is the replies to its lines in order.
 use Prim.Native.Nat.{ℕ, _+_, _-_}
 use mathlib.Core.Path.{_≡_, refl, ap, sym, _∙_}
 use mathlib.Core.List.{List, [], _∷_, _++_, append-assoc, append-nil, flatten}
@@ -15,8 +15,8 @@ use Rattle.text.specs.LineLaws.{glue, glue-piece, glue-snoc}
 use Rattle.text.specs.Code.Scan.{emptyScan, scanSpace, scanDigit, scanByte, isEmpty, scanLine, scanned}
 use Rattle.text.specs.ScanLaws.{scan-snoc, scan-line}
 use Rattle.text.specs.Print.{replyLine, answerLine}
-use Rattle.text.specs.Stream.{lines, answers, outputOf}
-use Rattle.text.specs.Code.Block.{emits, leaves, closes, runBlocks}
+use Rattle.text.specs.Stream.{lines, replies, outputOf}
+use Rattle.text.specs.Block.{emits, leaves, closes, runBlocks}
 use Rattle.text.specs.BlockLaws.{leaves-append, emits-append}
 
 -- a run in blocks gives what a run in one block gives
@@ -65,31 +65,31 @@ glue-last x [] = refl
 glue-last x (y ∷ w) = ap (front x) (glue-last y w)
 
 abbrev Rest : List ℕ → Type 0
-Rest l = (w : List ℕ) → emits (scanned emptyScan w) l ++ closes (leaves (scanned emptyScan w) l) ≡ answers (glue w (lines l))
+Rest l = (w : List ℕ) → emits (scanned emptyScan w) l ++ closes (leaves (scanned emptyScan w) l) ≡ replies (glue w (lines l))
 
 at-end : Rest []
 unfolding Begun
 at-end [] = refl
 at-end (x ∷ w) =
     ap (λ (t : Bool). cond t [] (replyLine (scanLine (scanned emptyScan (x ∷ w))))) (begun emptyScan x w)
-    ∙ ap replyLine (scan-line (x ∷ w)) ∙ sym (append-nil (answerLine (x ∷ w))) ∙ sym (ap answers (glue-last x w))
+    ∙ ap replyLine (scan-line (x ∷ w)) ∙ sym (append-nil (answerLine (x ∷ w))) ∙ sym (ap replies (glue-last x w))
 
 at-byte : (t : Bool) (w l : List ℕ) (x : ℕ) → Rest l
     → let s = scanned emptyScan w in let s' = cond t emptyScan (scanByte s x) in
-    (cond t (replyLine (scanLine s)) [] ++ emits s' l) ++ closes (leaves s' l) ≡ answers (glue w (cond t ([] ∷ lines l) (front x (lines l))))
+    (cond t (replyLine (scanLine s)) [] ++ emits s' l) ++ closes (leaves s' l) ≡ replies (glue w (cond t ([] ∷ lines l) (front x (lines l))))
 at-byte true w l x ih =
     let r = replyLine (scanLine (scanned emptyScan w)) in
     append-assoc r (emits emptyScan l) (closes (leaves emptyScan l)) ∙ ap (λ (z : List ℕ). r ++ z) (ih [])
-    ∙ ap (λ (z : Line). replyLine z ++ answers (lines l)) (scan-line w) ∙ sym (ap answers (glue-piece w (lines l)))
+    ∙ ap (λ (z : Line). replyLine z ++ replies (lines l)) (scan-line w) ∙ sym (ap replies (glue-piece w (lines l)))
 at-byte false w l x ih =
-    ap (λ (s : Scan). emits s l ++ closes (leaves s l)) (sym (scan-snoc emptyScan w x)) ∙ ih (w ++ (x ∷ [])) ∙ ap answers (glue-snoc w x (lines l))
+    ap (λ (s : Scan). emits s l ++ closes (leaves s l)) (sym (scan-snoc emptyScan w x)) ∙ ih (w ++ (x ∷ [])) ∙ ap replies (glue-snoc w x (lines l))
 
 -- the output after a line has begun with w
 rest : (l : List ℕ) → Rest l
 rest [] w = at-end w
 rest (x ∷ l) w = at-byte (eqb x newline) w l x (rest l)
 
--- Whatever the cut into blocks, the whole output is the answers to the lines of the whole input, in order.
+-- Whatever the cut into blocks, the whole output is the replies to the lines of the whole input, in order.
 pub whole-output : (blocks : List (List ℕ)) → runBlocks emptyScan blocks ≡ outputOf (flatten blocks)
 unfolding outputOf
 whole-output blocks = one-block emptyScan blocks ∙ rest (flatten blocks) []

@@ -6,7 +6,7 @@ use native.Mathlib.Omega.{arith}
 use native.Mathlib.Numerals.{add-one}
 use lib.ListN.{length, length-append, length-drop, take, drop, set, take-append-drop}
 use lib.Seq.{length-take-le, take-at, drop-at, drop-drop, set-split, append-snoc}
-use Rattle.text.specs.Code.Wrote.{Wrote}
+use Rattle.text.specs.Wrote.{Wrote}
 
 -- what stands before the end and after it, and that the buffer keeps its length
 module _ {a b : ℕ} {o p xs : List ℕ} (w : Wrote a o p b xs) where

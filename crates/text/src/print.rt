@@ -9,17 +9,14 @@ ghost use mathlib.Core.Path.{_≡_};
 ghost use mathlib.Core.List.{[], _∷_};
 ghost use lib.ListN.{length};
 ghost use Prim.Native.Nat.{_+_, _≤_};
-ghost use Rattle.reading.specs.Convert.{convertWhole};
+ghost use Rattle.reading.specs.Convert.{convertMicro};
 ghost use Rattle.cct.specs.Answers.{answer};
-ghost use Rattle.text.specs.Code.Wrote.{Wrote};
+ghost use Rattle.text.specs.Wrote.{Wrote};
 ghost use Rattle.text.specs.Decimal.{digitsOf, decimal, signed};
 ghost use Rattle.text.specs.Print.{programEdges, classText, answerText, replyTo, replyLine};
 ghost use Rattle.text.specs.Code.Halves.{fieldText, placesText, restText};
 
 const MINUS_SIGN: u8 = b'-';
-
-// The class of an answer that names none.
-const NO_CLASS: u8 = 255;
 
 // One byte.
 fn put_byte(out: &mut [u8], at: usize, b: u8) -> usize
@@ -80,7 +77,7 @@ fn put_class(class: u8, out: &mut [u8], at: usize) -> usize
     requires { ⌜ at + 10 ≤ length (now out) ⌝ }
     ensures { λ r. ⌜ Wrote at (now (out .entry)) (now (out .exit)) r (classText class) ⌝ }
 {
-    if class == NO_CLASS {
+    if class == classes::NO_CLASS {
         return put_byte(out, at, MINUS_SIGN);
     }
     put_number(class as u32, out, at)
@@ -124,10 +121,10 @@ fn put_answer(answer: Answer, out: &mut [u8], at: usize) -> usize
 
 // The answer to u and v in micro at the program's class edges.
 fn answer_of(u: u32, v: u32, max_steps: u32) -> Answer
-    ensures { λ r. ⌜ r ≡ answer programEdges (convertWhole u v) «max_steps» ⌝ }
+    ensures { λ r. ⌜ r ≡ answer programEdges (convertMicro u v) «max_steps» ⌝ }
 {
     let edges: [u32; 5] = [1600, 2500, 3500, 5000, 20001];
-    cct::whole_answer_uv(u, v, &edges, max_steps)
+    cct::whole_answer_micro(u, v, &edges, max_steps)
 }
 
 // The answer to what a line says.

@@ -72,8 +72,8 @@ fn answer_whole(values: [u32; 64], count: usize) -> FloatAnswer {
     let max_steps = values[2];
     let start = 3;
     let end = fields::bounded(count, start);
-    let whole = cct::whole_answer_uv(u, v, &values[start..end], max_steps);
-    let floats = cct::answer_uv(u, v, &values[start..end], max_steps);
+    let whole = cct::whole_answer_micro(u, v, &values[start..end], max_steps);
+    let floats = cct::answer_micro(u, v, &values[start..end], max_steps);
     joined(whole, floats)
 }
 

@@ -57,5 +57,5 @@ pub(crate) fn conversion(kind: u64, values: [u32; 64], out: &mut [u8; 65536], at
         let reading = reading_of(kind, values[0], values[1], values[2]);
         return put_converted(reading::convert(reading), out, at);
     }
-    put_converted(reading::convert_whole(values[0], values[1]), out, at)
+    put_converted(reading::convert_micro(values[0], values[1]), out, at)
 }

@@ -4,7 +4,8 @@ use denote.Ref.{now}
 use borrow.Author.Tests.{not-true, not-false}
 use Rattle.refusal.specs.declared.Refusal.the-variants.{BadEdges}
 use Rattle.cct.specs.Answers.{refused}
-use Rattle.cct.specs.RefusalLaws.{bad-edges, not-converted, condition-refused}
+use Rattle.cct.specs.Conditions.{bad-edges, not-converted}
+use Rattle.cct.specs.RefusalLaws.{condition-refused}
 use Rattle.cct.proofs.Assembly.{edges-passed}
 use borrow.Author.Needs.{needs}
 use Rattle.cct.proofs.whole_answer_converted.Statement.{statement}

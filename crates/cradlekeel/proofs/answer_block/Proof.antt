@@ -7,7 +7,7 @@ use borrow.Author.Needs.{needs}
 use lib.ListN.{length, length-take, length-drop, take, drop}
 use lib.Seq.{length-take-le, take-all}
 use Rattle.text.specs.BlockLaws.{block-within, block-some, block-carries}
-use Rattle.text.specs.Code.Block.{leaves}
+use Rattle.text.specs.Block.{leaves}
 use Rattle.text.specs.WroteLaws.{wrote-length, wrote-fits}
 use Rattle.cradlekeel.specs.declared.Turn.the-variants.{More}
 use Rattle.cradlekeel.proofs.answer_block.Statement.{statement}

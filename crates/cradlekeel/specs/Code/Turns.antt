@@ -5,7 +5,7 @@ use mathlib.Core.List.{List}
 use mathlib.Core.Logic.{_⊎_}
 use lib.ListN.{length, take}
 use Rattle.text.specs.declared.grammar.Scan.{Scan}
-use Rattle.text.specs.Code.Block.{leaves}
+use Rattle.text.specs.Block.{leaves}
 use Rattle.cradlekeel.specs.declared.Turn.{Turn}
 use Rattle.cradlekeel.specs.declared.Turn.the-variants.{More, Ended, Failed}
 

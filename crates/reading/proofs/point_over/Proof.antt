@@ -1,4 +1,4 @@
--- `point_over` meets its contract: the quotients are arith's, and at most `wholeLimit`.
+-- `point_over` meets its contract: the quotients are arith's, and at most `microLimit`.
 use borrow.Author.Needs.{needs}
 use native.Mathlib.Omega.{arith}
 use Rattle.reading.specs.Convert.{pointOver}

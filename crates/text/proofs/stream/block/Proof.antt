@@ -6,9 +6,9 @@ use native.Mathlib.Omega.{arith}
 use borrow.Author.Needs.{needs}
 use lib.ListN.{length, getD, take, drop}
 use Rattle.text.specs.declared.grammar.Scan.{Scan}
-use Rattle.text.specs.Code.Wrote.{Wrote}
+use Rattle.text.specs.Wrote.{Wrote}
 use Rattle.text.specs.WroteLaws.{wrote-length, wrote-fits, wrote-nothing, wrote-then, wrote-as}
-use Rattle.text.specs.Code.Block.{emitted, nextScan, emits, leaves, reads}
+use Rattle.text.specs.Block.{emitted, nextScan, emits, leaves, reads}
 use Rattle.text.specs.BlockLaws.{leaves-take, emits-take, reads-full, reads-end, reads-next}
 use Rattle.text.proofs.stream.block.Statement.{statement}
 use Rattle.text.proofs.stream.block.Tie as tie

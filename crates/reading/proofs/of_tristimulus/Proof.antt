@@ -1,4 +1,4 @@
--- `tristimulus` meets its contract: its three tests are refusals 2, 3 and 4 of the definition, in that order.
+-- `of_tristimulus` meets its contract: its three tests are refusals 2, 3 and 4 of the definition, in that order.
 use borrow.Author.Needs.{needs}
 use borrow.Author.Tests.{lt-ltb, le-ltb}
 use mathlib.Core.Path.{_≡_}
@@ -10,8 +10,8 @@ use lib.Ieee.Scale.{finite}
 use Rattle.reading.specs.Whole.{tristimulus, inRange, toWhole}
 use Rattle.reading.specs.Convert.{leastY, ofTristimulus}
 use Rattle.reading.proofs.Checks.{join, negated, passed3}
-use Rattle.reading.proofs.tristimulus.Statement.{statement}
-use Rattle.reading.proofs.tristimulus.Tie as tie
+use Rattle.reading.proofs.of_tristimulus.Statement.{statement}
+use Rattle.reading.proofs.of_tristimulus.Tie as tie
 
 -- what the first two tests have shown
 all-finite : (c : tie.Else1) → let a = c .before .before .before .before .args in finite (a .x) && finite (a .y) && finite (a .z) ≡ true
@@ -51,8 +51,8 @@ returns-4 c =
     let light : leastY ≤ toWhole tristimulus (c .before .before .before .before .before .before .before .before .before .before .before .before .before .args .y) = omega arith in
     rw (all-finite (c .before .before .before .before .before .before .before .before .before), g .0, g .1, g .2, le-ltb _ _ light) (cc)
 
-pub tristimulus-spec : {M : Type 1} → statement M
-tristimulus-spec =
+pub of-tristimulus-spec : {M : Type 1} → statement M
+of-tristimulus-spec =
     tie.close
     (tie.spec (λ c κs. search needs) (λ c κs. search needs) (λ c κs. search needs) returns
     (λ c κs. search needs) (λ c κs. search needs) (λ c κs. search needs) returns-2

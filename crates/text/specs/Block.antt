@@ -11,7 +11,7 @@ use Rattle.text.specs.declared.stream.Done.{Done}
 use Rattle.text.specs.Line.{newline}
 use Rattle.text.specs.Code.Scan.{emptyScan, scanByte, isEmpty, scanLine}
 use Rattle.text.specs.Print.{replyLine}
-use Rattle.text.specs.Code.Wrote.{Wrote}
+use Rattle.text.specs.Wrote.{Wrote}
 
 -- what a byte adds to the output where the line so far is s, and the line so far after it
 abbrev pub emitted : Scan → ℕ → List ℕ

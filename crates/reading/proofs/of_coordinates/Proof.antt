@@ -1,4 +1,4 @@
--- `coordinates` meets its contract: its two tests are those of `judged`, over the whole reading.
+-- `of_coordinates` meets its contract: its two tests are those of `judged`, over the whole reading.
 use borrow.Author.Needs.{needs}
 use mathlib.Core.Path.{_≡_}
 use mathlib.Core.Bool.{true, _&&_}
@@ -7,8 +7,8 @@ use lib.Ieee.Scale.{finite}
 use Rattle.reading.specs.Whole.{coordinate, inRange}
 use Rattle.reading.specs.Convert.{ofCoordinates}
 use Rattle.reading.proofs.Checks.{join, negated, passed}
-use Rattle.reading.proofs.coordinates.Statement.{statement}
-use Rattle.reading.proofs.coordinates.Tie as tie
+use Rattle.reading.proofs.of_coordinates.Statement.{statement}
+use Rattle.reading.proofs.of_coordinates.Tie as tie
 
 -- what the two tests have shown
 all-finite : (c : tie.Else1) → let a = c .before .before .before .args in finite (a .x) && finite (a .y) ≡ true
@@ -35,8 +35,8 @@ returns-3 : tie.Need-returns-3
 unfolding ofCoordinates
 returns-3 c = let g = all-in-range (c .before .before) in rw (all-finite (c .before .before .before .before .before), g .0, g .1) (cc)
 
-pub coordinates-spec : {M : Type 1} → statement M
-coordinates-spec =
+pub of-coordinates-spec : {M : Type 1} → statement M
+of-coordinates-spec =
     tie.close
     (tie.spec (λ c κs. search needs) (λ c κs. search needs) returns
     (λ c κs. search needs) (λ c κs. search needs) returns-2
