@@ -1,7 +1,7 @@
 /* Cradlekeel: the correlated colour temperature, Duv and temperature class of one colour reading.
  *
- * Build the library with `make lib`, and again after `.ci/run`, which empties target/; link target/lib/libcradlekeel.a or
- * target/lib/libcradlekeel.so. From examples/lamp.c, a whole program:
+ * Build the library with `make lib`, and again after `.ci/run`, which empties target/; link target/lib/libcradlekeel.a, or
+ * target/lib/libcradlekeel.so with -Wl,-rpath,"$PWD/target/lib". From examples/lamp.c, a whole program:
  *
  *     ck_answer a = ck_read_xy(x, y, edges, 5, 14);
  *     if (a.whole.refusal != CK_ACCEPTED) {

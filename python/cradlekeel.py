@@ -5,11 +5,12 @@
 >>> round(answer.kelvin), answer.duv, answer.class_index
 (6518, 0.003241, 3)
 
-Build the library first: `make lib` in the repository's root, and again after `.ci/run`, which empties target/. Only Python's
-standard library is used. examples/lamp.py is a whole program.
+Build the library first: `make lib` in the repository's root, and again after `.ci/run`, which empties target/. The
+variable CRADLEKEEL_LIBRARY names a library in another place. Only Python's standard library is used. examples/lamp.py is a
+whole program.
 
 The library takes single-precision floats. A Python float is a double, and it is rounded to the nearest single when it is
-handed over: 0.3127 is answered as 0.312700003385543823..., and 0.99999999 becomes 1 and is refused. What then happens to the
+handed over: 0.3127 is answered as 0.312700003385543823..., 0.99999999 becomes 1 and is refused, and 1e39 becomes an infinity. What then happens to the
 single is exact. `read_micro` takes whole numbers and rounds nothing.
 
 A reading that has no answer raises `Refusal`. A whole number that does not fit 32 bits raises `ValueError`.
@@ -19,6 +20,7 @@ import ctypes
 import functools
 import operator
 import os
+import shlex
 from dataclasses import dataclass
 from pathlib import Path
 
@@ -76,7 +78,7 @@ class Answer:
     """What an accepted reading comes to."""
 
     kelvin: float
-    """The correlated colour temperature."""
+    """The correlated colour temperature: that of the nearest point seen, which can lie just outside `kelvin_range`."""
     duv: float
     """The signed distance from the locus in CIE 1960 (u, v), in steps of 0.000001."""
     kelvin_range: tuple[float, float]
@@ -127,7 +129,7 @@ def read_xy(x, y, edges=EDGES, steps=STEPS):
 
 
 def read_xyz(x, y, z, edges=EDGES, steps=STEPS):
-    """The answer to tristimulus values X, Y and Z, each 0 <= X < 4096, with Y at least 1.
+    """The answer to tristimulus values X, Y and Z, each 0 <= X < 4096; Y, rounded to 0.00001, is at least 1.
 
     >>> round(read_xyz(100, 100, 100).kelvin)
     5451
@@ -168,9 +170,12 @@ _NUMBERS = {"ck_read_uv": 2 * [ctypes.c_float], "ck_read_uvp": 2 * [ctypes.c_flo
 
 @functools.lru_cache(maxsize=None)
 def _library():
-    path = Path(os.environ.get("CRADLEKEEL_LIBRARY", _ROOT / _LIBRARY))
-    if not path.exists():
-        raise LibraryMissing(f"Cradlekeel's library is not built: there is no {path}. Run: make -C {_ROOT} lib")
+    named = os.environ.get("CRADLEKEEL_LIBRARY")
+    path = Path(named) if named else _ROOT / _LIBRARY
+    if not path.is_file():
+        raise LibraryMissing(
+            f"CRADLEKEEL_LIBRARY names {path}, and there is no such file" if named else
+            f"Cradlekeel's library is not built: there is no {path}. Run: make -C {shlex.quote(str(_ROOT))} lib")
     library = ctypes.CDLL(str(path))
     for name, numbers in _NUMBERS.items():
         function = getattr(library, name)
@@ -181,7 +186,10 @@ def _library():
 
 def _u32(name, value):
     """A whole number that fits 32 bits: ctypes would cut a larger one without a word."""
-    number = operator.index(value)
+    try:
+        number = operator.index(value)
+    except TypeError:
+        raise TypeError(f"{name} is {value!r}, which is not a whole number") from None
     if not 0 <= number < 2**32:
         raise ValueError(f"{name} is {number}, which does not fit an unsigned whole number of 32 bits")
     return number

@@ -37,6 +37,6 @@ pub data Refines (c : Converted) (n₁ n₂ : ℕ) (a b : Answer) : Type 0 where
 -- a float answer
 pub record Demand3 (es : List ℕ) (c : Converted) (n₁ n₂ : ℕ) : Type 0 where
   pub refines : Refines c n₁ n₂ (answer es c n₁) (answer es c n₂)
-  -- from 14 steps on nothing changes; `RefinementProof.settled-any` says so of any two allowances of 14 or more
+  -- from 14 steps on nothing changes; `RefinementProof.settled-any` says so of any two numbers of steps from 14 on
   pub same : 14 ≤ n₁ → answer es c n₁ ≡ answer es c n₂
   pub same-floats : 14 ≤ n₁ → floatAnswer (answer es c n₁) ≡ floatAnswer (answer es c n₂)

@@ -58,7 +58,7 @@ refined es c n₁ n₂ h = go (decided es c)
     go (refusal r k) = both-refused r (condition-refused es c r k n₁) (condition-refused es c r k n₂)
     go (clear u v k) = both-accepted u v (k .at .point) (is-accepted es c u v k n₁) (is-accepted es c u v k n₂) (narrows es c u v k n₁ n₂ h)
 
--- any two allowances of 14 or more give the same answer, the floats too
+-- any two numbers of steps allowed from 14 on give the same answer, the floats too
 pub settled-any : (es : List ℕ) (c : Converted) (a b : ℕ) → 14 ≤ a → 14 ≤ b → answer es c a ≡ answer es c b
 settled-any es c a b h l = go (decided es c)
   where

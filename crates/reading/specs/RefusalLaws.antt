@@ -1,17 +1,16 @@
 -- Refusals 2, 3 and 4 of a reading, and refusal 3 of two whole numbers: each is given exactly under its condition, where none before it holds.
 use mathlib.Core.Path.{_≡_, refl, sym, subst, _∙_}
 use mathlib.Core.Bool.{Bool, true, false, _&&_, cond}
-use Prim.Native.Nat.{ℕ, _<_}
+use Prim.Native.Nat.{ℕ}
 use native.Mathlib.Omega.{arith}
-use lib.Dec.{leb, ltb}
-use lib.Ieee.Scale.{finite}
+use lib.Dec.{leb}
 use borrow.Author.Tests.{lt-leb, leb-false}
 use Rattle.arith.specs.TestLaws.{first-fails, second-fails}
 use Rattle.refusal.specs.declared.Refusal.{Refusal}
-use Rattle.refusal.specs.declared.Refusal.the-variants.{NotFinite, OutOfRange, TooDark}
-use Rattle.reading.specs.Whole.{coordinate, tristimulus, inRange, toWhole}
+use Rattle.refusal.specs.declared.Refusal.the-variants.{OutOfRange, TooDark}
+use Rattle.reading.specs.Whole.{coordinate, tristimulus, toWhole}
 use Rattle.reading.specs.Conditions.{allFinite, allInRange, isDark, ReadingCondition, not-finite, out-of-range, too-dark, MicroCondition, u-over, v-over}
-use Rattle.reading.specs.Convert.{microLimit, leastY, judged, ofUv, ofUvPrime, ofXy, ofXyz, ofCoordinates, ofTristimulus, convertReading, convertMicro}
+use Rattle.reading.specs.Convert.{microLimit, judged, ofUv, ofUvPrime, ofXy, ofXyz, ofCoordinates, ofTristimulus, convertReading, convertMicro}
 use Rattle.reading.specs.declared.Reading.{Reading}
 use Rattle.reading.specs.declared.Reading.the-variants.{Uv, UvPrime, Xy, Xyz}
 use Rattle.reading.specs.declared.Converted.{Converted}

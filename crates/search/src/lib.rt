@@ -108,7 +108,7 @@ fn step(span: locus::Span, u: u32, v: u32, s: Progress) -> Progress
     }
 }
 
-// The number of steps for an allowance (rule 5).
+// The number of steps to take where so many are allowed (rule 5).
 fn steps_for(max_steps: u32) -> u32
     ensures { λ r. ⌜ r ≡ stepsOf «max_steps» ⌝ }
 {

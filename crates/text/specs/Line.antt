@@ -24,18 +24,19 @@ digitNine = 57
 abbrev pub minusSign : ℕ
 minusSign = 45
 
--- a byte put in front of the first of some pieces
+-- a byte put in front of the first of some parts
 abbrev pub front : ℕ → List (List ℕ) → List (List ℕ)
 front x [] = (x ∷ []) ∷ []
 front x (p ∷ ps) = (x ∷ p) ∷ ps
 
--- the pieces of a list that a separator parts; `end` is what the end of the list makes of nothing
+-- a list cut at each separator. What follows the last separator is a part too; where nothing follows it, `afterLast` says which parts
+-- there are: one that is empty, or none
 abbrev pub split : ℕ → List (List ℕ) → List ℕ → List (List ℕ)
-split separator end [] = end
-split separator end (x ∷ l) =
-    cond (eqb x separator) ([] ∷ split separator end l) (front x (split separator end l))
+split separator afterLast [] = afterLast
+split separator afterLast (x ∷ l) =
+    cond (eqb x separator) ([] ∷ split separator afterLast l) (front x (split separator afterLast l))
 
--- the words of a line, with one space between: at the end nothing is an empty word
+-- the words of a line, with one space between: "a " is the words "a" and "", so a space at the end makes an empty word
 abbrev pub words : List ℕ → List (List ℕ)
 words l = split space ([] ∷ []) l
 
@@ -59,7 +60,7 @@ value w = valueFrom 0 w
 abbrev pub defaultSteps : ℕ
 defaultSteps = 14
 
--- two numbers, u and v, or three, with the allowance
+-- two numbers, u and v, or three, with the steps allowed
 abbrev pub numbersOf : List ℕ → Line
 numbersOf [] = Unreadable
 numbersOf (u ∷ []) = Unreadable

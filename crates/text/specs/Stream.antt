@@ -4,7 +4,7 @@ use mathlib.Core.List.{List, [], _∷_, _++_}
 use Rattle.text.specs.Line.{newline, split}
 use Rattle.text.specs.Print.{answerLine}
 
--- the lines of an input: the last may lack its newline; at the end nothing is no line, so a newline there starts none
+-- the lines of an input: "a" is one line, and so is "a" with a newline after it, since where nothing follows a newline there is no line
 abbrev pub lines : List ℕ → List (List ℕ)
 lines input = split newline [] input
 
