@@ -2,12 +2,16 @@
 
     python3 tests/check_wrong_rules.py      the rules that are caught, how many, and the names of those that are not
 
-The first six are the mistakes that document 01 warns of; the others are near misses that its rules leave room for."""
+The first six are the mistakes that document 01 warns of; the others are near misses that its rules leave room for. Those of
+the text program are tried on the first lines of its committed input, then on more, and at last on all of it. A wrong rule with
+which the reference cannot go on shows nothing, and ends the check."""
 
+import re
 import sys
 from collections import Counter
 from contextlib import contextmanager
 from fractions import Fraction
+from itertools import zip_longest
 from math import ceil, isqrt
 from pathlib import Path
 
@@ -21,7 +25,7 @@ import reference as ref
 from floats import exact_value, is_finite
 from hard_floats import single_precision_product
 
-VECTORS = Path(__file__).resolve().parent.parent / "crates" / "vectors"
+CRATES = Path(__file__).resolve().parent.parent / "crates"
 PARTS = {"answer": answer_cases, **{kind: core_cases for kind in ("point", "entry", "search", "class", "edges")}}
 
 
@@ -126,6 +130,31 @@ def edges_after_the_reading(kind, args, edges, allowance, answer=ref.answer):
     return given if given.refusal else answer(kind, args, edges, allowance)
 
 
+def carriage_return_ends_a_line(text, lines_of=ref.lines_of):
+    return lines_of(text.replace(b"\r", b"\n"))
+
+
+def carriage_return_before_the_newline_dropped(text, lines_of=ref.lines_of):
+    return [line.removesuffix(b"\r") for line in lines_of(text)]
+
+
+def final_newline_opens_a_line(text):
+    return text.split(b"\n")
+
+
+def last_line_needs_its_newline(text):
+    return text.split(b"\n")[:-1]
+
+
+def space_at_an_end_dropped(line, answer_line=ref.answer_line):
+    return answer_line(line.strip(b" "))
+
+
+def number_pattern(digits, between=b" "):
+    number = b"([0-9]{%s})" % digits
+    return re.compile(number + between + number + b"(?:" + between + number + b")?")
+
+
 WRONG_RULES = (
     ("admit", too_far_by_the_point_found),
     ("class_of", class_of_the_nearest_point_alone),
@@ -155,6 +184,18 @@ WRONG_RULES = (
     ("WHOLE_LIMIT", ref.WHOLE_LIMIT - 1),
     ("WHOLE_LIMIT", ref.WHOLE_LIMIT + 1),
 )
+WRONG_TEXT_RULES = (
+    ("lines_of", carriage_return_ends_a_line),
+    ("lines_of", carriage_return_before_the_newline_dropped),
+    ("lines_of", final_newline_opens_a_line),
+    ("lines_of", last_line_needs_its_newline),
+    ("answer_line", space_at_an_end_dropped),
+    ("LINE", number_pattern(b"1,8"), "eight digits read"),
+    ("LINE", number_pattern(b"1,6"), "seven digits not read"),
+    ("LINE", number_pattern(b"1,7", b" +"), "several spaces between numbers"),
+    ("DEFAULT_STEPS", 13),
+    ("TEXT_EDGES", (*ref.TEXT_EDGES[:-1], 20_000)),
+)
 
 
 @contextmanager
@@ -171,19 +212,34 @@ def put_in(name, wrong):
 
 
 def first_caught(vectors):
-    """The first vector whose answer changes; a rule with which the reference cannot go on is caught too."""
-    for line, answer in vectors:
-        try:
-            if PARTS.get(line.split()[0], convert_cases).expected(line) != answer:
-                return line
-        except (AssertionError, ValueError, IndexError):
-            return line
+    """The first vector whose answer changes."""
+    changed = (line for line, answer in vectors if PARTS.get(line.split()[0], convert_cases).expected(line) != answer)
+    return next(changed, None)
+
+
+def first_caught_text(texts):
+    """The first input whose output changes, by the first of its lines that is answered otherwise."""
+    for text, output in texts:
+        found = ref.answer_text(text)
+        if found != output:
+            pairs = enumerate(zip_longest(found.split(b"\n"), output.split(b"\n")))
+            at = next(k for k, (given, wanted) in pairs if given != wanted)
+            return "line %d of %d, %r" % (at + 1, output.count(b"\n"), b"".join(text.split(b"\n")[at:at + 1]))
     return None
+
+
+def committed_texts():
+    """(input, output) of the text program for its first 16, 32, .. lines with their newlines, and at last for all of them."""
+    text, output = ((CRATES / "cradlekeel" / name).read_bytes() for name in ("stdin", "stdout"))
+    lines, answers = (whole.split(b"\n") for whole in (text, output))
+    counts = [16 << k for k in range(20) if 16 << k < len(lines)]
+    first = lambda rows, count: b"".join(row + b"\n" for row in rows[:count])
+    return [(first(lines, count), first(answers, count)) for count in counts] + [(text, output)]
 
 
 def committed_vectors():
     """(line, answer) of each committed vector, the kinds in turn, so that every kind is met early."""
-    lines, answers = ((VECTORS / name).read_text().splitlines() for name in ("stdin", "stdout"))
+    lines, answers = ((CRATES / "vectors" / name).read_text().splitlines() for name in ("stdin", "stdout"))
     count = Counter()
     turns = []
     for line in lines:
@@ -193,18 +249,24 @@ def committed_vectors():
     return [pair for _, pair in sorted(zip(turns, zip(lines, answers)), key=lambda ranked: ranked[0])]
 
 
-def main():
-    vectors = committed_vectors()
+def missed_of(rules, shown_by):
+    """The titles of the rules that nothing shows; what shows each other is printed."""
     missed = []
-    for name, wrong in WRONG_RULES:
+    for name, wrong, *words in rules:
         with put_in(name, wrong):
-            caught = first_caught(vectors)
-        title = wrong.__name__.replace("_", " ") if callable(wrong) else "%s = %s" % (name, wrong)
-        print("%-36s %s" % (title, "caught by: " + caught[:70] if caught else "NOT CAUGHT"))
+            caught = shown_by()
+        (title,) = words or [wrong.__name__.replace("_", " ") if callable(wrong) else "%s = %s" % (name, wrong)]
+        print("%-44s %s" % (title, "caught by: " + caught[:70] if caught else "NOT CAUGHT"))
         missed += [] if caught else [title]
+    return missed
+
+
+def main():
+    vectors, texts = committed_vectors(), committed_texts()
+    missed = missed_of(WRONG_RULES, lambda: first_caught(vectors)) + missed_of(WRONG_TEXT_RULES, lambda: first_caught_text(texts))
     if missed:
         sys.exit("check_wrong_rules: not caught: " + ", ".join(missed))
-    print("check_wrong_rules: all %d wrong rules are caught" % len(WRONG_RULES))
+    print("check_wrong_rules: all %d wrong rules are caught" % (len(WRONG_RULES) + len(WRONG_TEXT_RULES)))
 
 
 if __name__ == "__main__":

@@ -316,6 +316,7 @@ def float_bits(given):
 # --- The text program -------------------------------------------------------------------------------------------------
 
 TEXT_EDGES = (1600, 2500, 3500, 5000, 20001)
+DEFAULT_STEPS = 14
 LONGEST_LINE = 32
 LINE = re.compile(rb"([0-9]{1,7}) ([0-9]{1,7})(?: ([0-9]{1,7}))?")
 
@@ -326,7 +327,7 @@ def answer_line(line):
     if not match:
         return b"%d" % UNREADABLE
     u, v = int(match[1]), int(match[2])
-    allowance = MOST_STEPS if match[3] is None else int(match[3])
+    allowance = DEFAULT_STEPS if match[3] is None else int(match[3])
     given = answer("whole", (u, v), TEXT_EDGES, allowance)
     if given.refusal:
         return b"%d" % given.refusal
@@ -334,9 +335,14 @@ def answer_line(line):
     return b"0 %d %d %d %d %d %s" % (given.place, given.o, given.p, given.duv, given.steps, shown)
 
 
-def answer_text(text):
-    """The program's whole output; the newline that ends the input opens no new line."""
+def lines_of(text):
+    """The lines of an input; the newline that ends it opens no new line."""
     lines = text.split(b"\n")
     if lines[-1] == b"":
         lines.pop()
-    return b"".join(answer_line(line) + b"\n" for line in lines)
+    return lines
+
+
+def answer_text(text):
+    """The program's whole output."""
+    return b"".join(answer_line(line) + b"\n" for line in lines_of(text))
