@@ -1,6 +1,9 @@
 """Checks docs/TRACE.md: what stands in backticks in its tables exists, every row is full, and no line is too long.
 
-    `cct/Answers#answer`   the name in Answers.antt of crates/cct: in specs, else in specs/Code, else in proofs
+    python3 tests/check_trace.py               docs/TRACE.md
+    python3 tests/check_trace.py --self-test   a small text, in which only what is defined must be found
+
+    `cct/Answers#answer`   the name that Answers.antt of crates/cct defines: in specs, else in specs/Code, else in proofs
     `cct/Answers`          that file
     `cct::answer_uv`       the function, `cct::Type::name` a method, `cct::Type` a type or constant of crates/cct/src
     `cct@answer_uv`        the function's proof: Proof.antt in the folder of its name in crates/cct/proofs
@@ -16,7 +19,7 @@ from pathlib import Path
 
 sys.dont_write_bytecode = True
 
-from rattle_source import functions_of
+from rattle_source import functions_of, without_comments
 
 ROOT = Path(__file__).resolve().parent.parent
 CRATES = ROOT / "crates"
@@ -25,9 +28,32 @@ LONGEST_LINE = 200
 TOKEN = re.compile(r"(?P<crate>\w+)(?:/(?P<file>\w+)(?:#(?P<names>.+))?|(?P<mark>::|@|!)(?P<items>.+))")
 
 
-def occurs(name, text):
-    """Whether a name stands in a text by itself, not as a part of a longer name."""
-    return re.search(r"(?<![\w'-])" + re.escape(name) + r"(?![\w'-])", text) is not None
+DECLARED = re.compile(r"(?:pub +)?(?:record|data) +(?P<name>\S+)")
+SIGNED = re.compile(r"(?:(?:abbrev|unfoldable|pub) +)*(?P<name>\S+) +:(?= |$)")
+HOLDS_DEFINITIONS = re.compile(r"(?:pub +)?(?:record|data|module)\b")
+
+
+def defined_names(text):
+    """The names that an .antt text defines: signatures, records and data with their fields and constructors, in modules too.
+
+    A name inside a definition's own body, in a comment or in a `use` line is none of them."""
+    found, levels = set(), [[-1, 0]]  # the indent of each line that holds definitions, and the indent of those
+    for line in re.sub(r"\{-.*?-\}", "", text, flags=re.DOTALL).splitlines():
+        code = re.sub(r"(?:^|\s)--.*", "", line).rstrip()
+        words = code.lstrip(" ")
+        indent = len(code) - len(words)
+        if not words:
+            continue
+        while levels[-1][0] >= indent:
+            levels.pop()
+        levels[-1][1] = indent if levels[-1][1] is None else levels[-1][1]
+        if indent != levels[-1][1]:
+            continue
+        match = DECLARED.match(words) or SIGNED.match(words)
+        found |= {match["name"]} if match else set()
+        if HOLDS_DEFINITIONS.match(words):
+            levels.append([indent, None])
+    return found
 
 
 def file_fault(crate, file, names):
@@ -36,17 +62,17 @@ def file_fault(crate, file, names):
     found = next((path for path in paths if path.is_file()), None)
     if found is None:
         return "no file of that name in specs/, specs/Code/ or proofs/"
-    text = found.read_text(encoding="utf-8")
-    missing = [name for name in names if not occurs(name, text)]
-    return "%s does not have %s" % (found.relative_to(ROOT), ", ".join(missing)) if missing else None
+    defined = defined_names(found.read_text(encoding="utf-8"))
+    missing = [name for name in names if name not in defined]
+    return "%s does not define %s" % (found.relative_to(ROOT), ", ".join(missing)) if missing else None
 
 
 def source_fault(crate, name):
     """What is missing of a function, a type or a constant of src/."""
     if name in {function.name for function in functions_of(crate)}:
         return None
-    text = "\n".join(path.read_text(encoding="utf-8") for path in (CRATES / crate / "src").rglob("*.rt"))
-    if re.search(r"\b(?:struct|enum|const) %s\b" % re.escape(name), text):
+    text = without_comments("\n".join(path.read_text(encoding="utf-8") for path in (CRATES / crate / "src").rglob("*.rt")))
+    if re.search(r"^ *(?:pub(?:\([^)]*\))? +)?(?:struct|enum|const) +%s\b" % re.escape(name), text, re.MULTILINE):
         return None
     return "crates/%s/src has no %s" % (crate, name)
 
@@ -125,7 +151,55 @@ def long_lines(text):
     return ["line %d has %d characters; %d is the most" % (*pair, LONGEST_LINE) for pair in too_long]
 
 
+# What it defines has `is` in its name; no other name of it is defined.
+SAMPLE = """
+-- no-1 : a comment
+{- no-2 : a longer
+no-3 : comment -}
+use lib.no-4.{no-5, no-6}
+infix 5 _no-7_
+is-1 : ℕ → ℕ
+is-1 no-8 =
+    let no-9 : ℕ = no-8 in
+    no-10 no-9
+  where
+    no-10 : ℕ → ℕ
+    no-10 n = n
+abbrev pub is-2 : ℕ
+is-2 = no-11 -- no-12 : at the end
+unfoldable pub _is-3_ :
+    ℕ → ℕ
+pub record Is4 (no-13 : ℕ) : Type 0 where
+  -- no-14 : a comment
+  pub is-5 : ℕ
+pub data Is6 : Type 0 where
+  is-7 : (no-15 : ℕ) → Is6
+module _ (no-16 : ℕ) where
+  pub is-8 : ℕ
+  is-8 = no-17
+    where
+      no-18 : ℕ
+  record Is9 : Type 0 where
+    is-10 : ℕ
+no-19 = is-1
+"""
+
+
+def self_test():
+    """What the sample defines is found and nothing else; a signature of another name is missed."""
+    found = defined_names(SAMPLE)
+    expected = {name for name in re.findall(r"[\w-]+", SAMPLE) if re.fullmatch(r"_?[iI]s-?\d+_?", name)}
+    assert found == expected and len(found) == 10, (found - expected, expected - found)
+    renamed = SAMPLE.replace("is-1 :", "was-1 :")
+    assert "is-1" in renamed and defined_names(renamed) == expected - {"is-1"} | {"was-1"}
+    print("check_trace: the self-test found the %d names that are defined" % len(found))
+
+
 def main():
+    if sys.argv[1:] == ["--self-test"]:
+        return self_test()
+    if sys.argv[1:]:
+        sys.exit(__doc__)
     text = TRACE.read_text(encoding="utf-8")
     table = list(rows(text))
     kinds = {line.split()[0] for line in (CRATES / "vectors" / "stdin").read_text().splitlines()}
