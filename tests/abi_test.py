@@ -1,6 +1,7 @@
 """Runs the answer vectors of tests/make_vectors.py through python/cradlekeel.py, that module's own examples, and examples/.
 
-    python3 tests/abi_test.py     (tests/run-abi calls it, with examples/lamp.c compiled to target/abi/lamp)
+    python3 tests/abi_test.py               (tests/run-abi calls it, with examples/lamp.c compiled to target/abi/lamp)
+    python3 tests/abi_test.py --self-test   without the library: what is expected of the lamps, and what the documents show
 """
 
 import doctest
@@ -17,6 +18,7 @@ ROOT = Path(__file__).resolve().parent.parent
 sys.path.insert(0, str(ROOT / "python"))
 
 import cradlekeel
+import readme_commands
 import reference
 
 READERS = {"uv": (cradlekeel.read_uv, "ck_read_uv"), "uvp": (cradlekeel.read_uv_prime, "ck_read_uvp"),
@@ -105,7 +107,7 @@ def lamp_line(lamp):
     given = reference.answer("xy", bits, cradlekeel.EDGES, cradlekeel.STEPS)
     if given.refusal:
         return f"refusal {given.refusal}: ", 1
-    kelvin, low, high = (reference.KELVIN_PLACES / place for place in (given.place, given.high, given.low))
+    kelvin, low, high = (float(reference.kelvin_at(place)) for place in (given.place, given.p, given.o))
     shown = "no class" if given.cls == reference.NO_CLASS else f"class {given.cls}"
     return f"{kelvin:.1f} K, Duv {given.duv / reference.MICRO:+.6f}, range {low:.1f} to {high:.1f} K, {shown}\n", 0
 
@@ -123,31 +125,47 @@ def check_examples():
 
 
 def check_shown(where, shown, example):
-    """Each line that a document shows of an example stands in it, in the same order."""
+    """A document shows lines of an example, and each stands in it, in the same order."""
     rest = iter((ROOT / example).read_text().splitlines())
-    for line in filter(str.strip, shown):
+    lines = [line for line in shown if line.strip()]
+    assert lines, f"{where} shows nothing of {example}"
+    for line in lines:
         assert line in rest, f"{where} shows a line that {example} does not have there: {line}"
 
 
 def check_documents():
-    """The example in the header, and the README's blocks under a comment that names a file of examples/."""
+    """The example in the header, and the README's blocks under a comment that names a file of examples/: one for each."""
     header = (ROOT / "include/cradlekeel.h").read_text().split("*/")[0].splitlines()
     check_shown("include/cradlekeel.h", [line[3:] for line in header if line.startswith(" *     ")], "examples/lamp.c")
     blocks = re.findall(r"<!-- (examples/\S+) -->\s*```\w+\n(.*?)```", (ROOT / "README.md").read_text(), re.DOTALL)
+    named = sorted(example for example, _ in blocks)
+    assert named == ["examples/lamp.c", "examples/lamp.py"], f"README.md has blocks of {named}"
     for example, block in blocks:
         check_shown("README.md", block.splitlines(), example)
     return len(blocks)
 
 
+def self_test():
+    """What needs no library, so that a fault in it shows before anything is proved."""
+    statuses = {lamp_line(lamp)[1] for lamp in LAMPS}
+    assert statuses == {0, 1}, "the lamps should have both answers and refusals"
+    blocks, commands = check_documents(), readme_commands.self_test()
+    print(f"abi_test.py: {len(LAMPS)} lamps computed; {blocks} blocks and {commands} commands of README.md read")
+
+
 def main():
+    if sys.argv[1:] == ["--self-test"]:
+        return self_test()
+    if sys.argv[1:]:
+        sys.exit(__doc__)
     count = run_vectors()
     check_whole_numbers()
     check_missing_library()
     check_examples()
-    blocks = check_documents()
+    blocks, commands = check_documents(), readme_commands.run(with_library=True)
     examples = doctest.testmod(cradlekeel)
     print(f"abi_test.py: {count} vectors, each by the C function and by the Python one; {examples.attempted} examples, "
-          f"{examples.failed} failures; {len(LAMPS)} lamps by each of examples/; {blocks} blocks of README.md")
+          f"{examples.failed} failures; {len(LAMPS)} lamps by each of examples/; {blocks} blocks and {commands} commands of README.md")
     sys.exit(examples.failed != 0)
 
 

@@ -1,0 +1,131 @@
+"""The commands that README.md shows with `$ ` in its indented blocks, run again: each must print the lines shown under it.
+
+A command goes on over further lines while bash finds it incomplete. One with no lines under it is only run, and must succeed.
+tests/run-abi runs those that need the C library, tests/run-program all others, so that every command runs in one of the two."""
+
+import os
+import re
+import subprocess
+from pathlib import Path
+from typing import NamedTuple
+
+ROOT = Path(__file__).resolve().parent.parent
+FENCE = re.compile(r"^ *```.*?^ *```[^\n]*$", re.MULTILINE | re.DOTALL)
+INDENT, PROMPT = "    ", "$ "
+NEEDS_LIBRARY = re.compile(r"\b(?:gcc|g\+\+|python3|target/lib|target/lamp)(?![\w-])")
+LEFT_OUT = ("make lib", ".ci/run")  # tests/run-abi and the gate run these themselves
+FEWEST = 3
+PATIENCE = 120  # seconds that one command may take
+
+
+class Command(NamedTuple):
+    text: str
+    shown: tuple  # the lines under it
+
+    @property
+    def needs_library(self):
+        return NEEDS_LIBRARY.search(self.text) is not None
+
+
+def indented_blocks(text):
+    """The lines of each run of indented lines outside fences, without their indent; blank lines do not end a run."""
+    blocks = [[]]
+    for line in FENCE.sub("", text).splitlines():
+        if line.startswith(INDENT) or not line.strip():
+            blocks[-1].append(line[len(INDENT):])
+        else:
+            blocks.append([])
+    return blocks
+
+
+def is_incomplete(text):
+    """Whether bash wants more lines."""
+    if text.endswith(("|", "\\")):
+        return True
+    said = subprocess.run(["bash", "-n"], input=text, capture_output=True, text=True, env={**os.environ, "LC_ALL": "C"}).stderr
+    return "unexpected EOF" in said or "unexpected end of file" in said or "here-document" in said
+
+
+def commands_of(block):
+    """The commands of one block, each with the lines up to the next."""
+    starts = [k for k, line in enumerate(block) if line.startswith(PROMPT)]
+    for start, end in zip(starts, [*starts[1:], len(block)]):
+        text, at = block[start][len(PROMPT):].rstrip(), start + 1
+        while at < end and is_incomplete(text):
+            text, at = text + "\n" + block[at].rstrip(), at + 1
+        assert not is_incomplete(text), "README.md shows a command that does not end: " + text
+        yield Command(text, tuple("\n".join(block[at:end]).rstrip().splitlines()))
+
+
+def commands(text):
+    """Every command that is to be run."""
+    found = [command for block in indented_blocks(text) for command in commands_of(block)]
+    return [command for command in found if not command.text.startswith(LEFT_OUT)]
+
+
+def readme_commands():
+    found = commands((ROOT / "README.md").read_text(encoding="utf-8"))
+    assert len(found) >= FEWEST, f"README.md shows {len(found)} commands; {FEWEST} is the fewest"
+    return found
+
+
+def fault(command):
+    """What a command does otherwise than README.md shows; None where nothing."""
+    ran = subprocess.run(["bash", "-c", command.text], cwd=ROOT, stdin=subprocess.DEVNULL, stdout=subprocess.PIPE,
+                         stderr=subprocess.STDOUT, text=True, timeout=PATIENCE)
+    if not command.shown:
+        return f"{command.text}\nended with status {ran.returncode}: {ran.stdout}" if ran.returncode else None
+    if tuple(ran.stdout.splitlines()) == command.shown:
+        return None
+    return "\n".join((command.text, "README.md shows:", *command.shown, "it printed:", ran.stdout))
+
+
+def run(with_library):
+    """Runs the commands that need the library, or those that do not, and counts them."""
+    chosen = [command for command in readme_commands() if command.needs_library == with_library]
+    assert chosen, "README.md shows no command " + ("that needs the library" if with_library else "for the program alone")
+    for command in chosen:
+        found = fault(command)
+        assert found is None, "a command of README.md: " + found
+    return len(chosen)
+
+
+SAMPLE = """
+A sentence with `$ false`, and a block.
+
+    $ printf 'a\\nb\\n' |
+        sed '
+          s/a/c/'
+    c
+    b
+    $ true
+
+    $ echo "d
+
+    e"
+    d
+
+    e
+
+    $ make lib        # left out
+    no prompt
+```sh
+    $ echo in a fence
+```
+    $ gcc --version && target/lamp
+"""
+
+
+def self_test():
+    """The sample is read as it should be, and a wrong output, a wrong status and a command without an end are found."""
+    found = commands(SAMPLE)
+    assert [len(command.shown) for command in found] == [2, 0, 3, 0], found
+    assert [command.needs_library for command in found] == [False, False, False, True], found
+    assert [fault(command) for command in found[:3]] == [None, None, None], found
+    assert fault(found[0]._replace(shown=("c",))) and fault(found[2]._replace(text="echo d"))
+    assert fault(Command("false", ()))
+    try:
+        commands("    $ echo 'no end\n")
+    except AssertionError:
+        return len(readme_commands())
+    raise AssertionError("a command without an end goes unnoticed")
