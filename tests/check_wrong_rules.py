@@ -263,6 +263,7 @@ def missed_of(rules, shown_by):
 
 def main():
     vectors, texts = committed_vectors(), committed_texts()
+    assert first_caught_text(texts) is None, "the right rules give another output"
     missed = missed_of(WRONG_RULES, lambda: first_caught(vectors)) + missed_of(WRONG_TEXT_RULES, lambda: first_caught_text(texts))
     if missed:
         sys.exit("check_wrong_rules: not caught: " + ", ".join(missed))
