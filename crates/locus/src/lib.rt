@@ -5,7 +5,7 @@ use refusal::Refusal;
 ghost use mathlib.Core.Path.{_≡_};
 ghost use Prim.Native.Nat.{_+_, _-_, _*_, _≤_, _<_};
 ghost use Rattle.locus.specs.Stored.{tableU, tableV, storedPoint, firstPlace, lastPlace, firstEntry, lastEntry};
-ghost use Rattle.locus.specs.Locus.{pieceOf, locusPoint, farOut, difference, squaredDistance, distanceAt};
+ghost use Rattle.locus.specs.Locus.{locusPoint, farOut, difference, squaredDistance, distanceAt};
 ghost use Rattle.locus.specs.Admission.{dot, behind, admission};
 ghost use Rattle.locus.specs.Code.Pieces.{lineThrough, lineAt, pieceFrom, spanAbout, pieceAt, AboutAnEntry};
 ghost use Rattle.locus.specs.Code.Lines.{Rises, LineFits};
@@ -293,21 +293,13 @@ pub fn distance_on(span: Span, u: u32, v: u32, place: u32) -> u64
     squared_distance(u, v, point.u, point.v)
 }
 
-// The piece that holds a place; the last place is the end of the last piece.
-fn piece_of(place: u32) -> u32
-    requires { ⌜ (firstPlace ≤ place) × (place ≤ lastPlace) ⌝ }
-    ensures { λ r. ⌜ r ≡ pieceOf place ⌝ }
-{
-    let i = place / PIECE_LENGTH - 1;
-    if i < 23 { i } else { 23 }
-}
-
-// The point of the locus at a place.
+// The point of the locus at a place: the span about the last entry that is not past the place holds it.
 pub fn point_at(us: &[u32; 24], vs: &[u32; 24], place: u32) -> Chromaticity
     requires { ⌜ (now us ≡ tableU) × (now vs ≡ tableV) × (firstPlace ≤ place) × (place ≤ lastPlace) ⌝ }
     ensures answers { λ r. ⌜ r ≡ locusPoint place ⌝ }
     ensures unchanged { λ r. ⌜ (now (us .exit) ≡ now (us .entry)) × (now (vs .exit) ≡ now (vs .entry)) ⌝ }
 {
-    let span = span_about(us, vs, piece_of(place));
+    let entry = place / PIECE_LENGTH - 1;
+    let span = span_about(us, vs, entry);
     point_on(span, place)
 }
