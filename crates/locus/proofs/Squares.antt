@@ -9,8 +9,9 @@ use borrow.Author.Tests.{ltb-true, ltb-false}
 use mir.Syntax.{w64}
 use mir.Val.{SFits, toZ, ofZ}
 use mir.Facts.{toZ-pos, toZ-ofZ}
-use Rattle.locus.specs.Locus.{farOut, difference}
+use Rattle.locus.specs.Locus.{difference}
 use Rattle.locus.specs.LocusLaws.{square-small}
+use Rattle.locus.specs.Code.Bounds.{farOut}
 
 -- a signed difference fits, and its square is that of the difference without its sign
 abbrev Squares : ℕ → ℕ → ℤ → Type 0

@@ -27,10 +27,6 @@ locusV = locusAt entryV
 abbrev pub locusPoint : ℕ → Chromaticity
 locusPoint place = record { u = locusU place; v = locusV place }
 
--- a point with a coordinate over this is too far from every entry; sums and products of coordinates up to it fit 64 bits
-abbrev pub farOut : ℕ
-farOut = 4000000
-
 -- the difference of two numbers, without its sign
 abbrev pub difference : ℕ → ℕ → ℕ
 difference x y = (x - y) + (y - x)

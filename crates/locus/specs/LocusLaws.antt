@@ -9,7 +9,8 @@ use Rattle.arith.specs.Units.{micro}
 use Rattle.arith.specs.RoundingLaws.{nearest-at-most}
 use Rattle.locus.specs.Stored.{tableU, tableV, entryIn, entryU, entryV, pieceLength, entryPlace, lastPlace}
 use Rattle.locus.specs.StoredLaws.{Steady, steady-u, steady-v}
-use Rattle.locus.specs.Locus.{pieceOf, between, locusAt, locusPoint, farOut, difference, distanceAt, entryDistance}
+use Rattle.locus.specs.Locus.{pieceOf, between, locusAt, locusPoint, difference, distanceAt, entryDistance}
+use Rattle.locus.specs.Code.Bounds.{farOut}
 use Rattle.locus.specs.declared.Chromaticity.{Chromaticity}
 
 -- a piece starts at its first entry and ends at its second
