@@ -145,7 +145,7 @@ fn with_next(us: &[u32; 24], vs: &[u32; 24], u: u32, v: u32, n: usize, best: Nea
     }
 }
 
-// The nearest entry; of equals, the lowest. Each turn of the loop looks at two entries.
+// The nearest entry; of equals, the lowest.
 fn nearest_entry(us: &[u32; 24], vs: &[u32; 24], u: u32, v: u32) -> Nearest
     requires { ⌜ (now us ≡ tableU) × (now vs ≡ tableV) × (u ≤ farOut) × (v ≤ farOut) ⌝ }
     ensures { λ r. ⌜ r ≡ nearestOf u v 23 ⌝ }
@@ -155,12 +155,10 @@ fn nearest_entry(us: &[u32; 24], vs: &[u32; 24], u: u32, v: u32) -> Nearest
         entry: 1,
         distance: squared_distance(u, v, first.u, first.v),
     };
-    best = with_next(us, vs, u, v, 0, best);
-    let mut j: usize = 0;
-    while j < 11 {
-        best = with_next(us, vs, u, v, 2 * j + 1, best);
-        best = with_next(us, vs, u, v, 2 * j + 2, best);
-        j += 1;
+    let mut n: usize = 0;
+    while n < 23 {
+        best = with_next(us, vs, u, v, n, best);
+        n += 1;
     }
     best
 }
