@@ -4,7 +4,6 @@ use Prim.Native.Nat.{_-_, _/_}
 use native.Mathlib.Omega.{arith}
 use Rattle.locus.specs.Stored.{pieceLength}
 use Rattle.locus.specs.PieceLaws.{span-ends}
-use borrow.Author.Needs.{needs}
 use Rattle.locus.proofs.point_at.Statement.{statement}
 use Rattle.locus.proofs.point_at.Tie as tie
 
