@@ -1,9 +1,10 @@
 // Reads lines from standard input and writes the answer to each to standard output.
 use text::Scan;
 ghost use Prim.Native.Nat.{_≤_};
+ghost use mathlib.Core.Path.{_≡_};
 ghost use lib.ListN.{length};
 ghost use Rattle.text.specs.Block.{lineRoom};
-ghost use Rattle.cradlekeel.specs.Code.Turns.{AfterBlock, AfterRead};
+ghost use Rattle.cradlekeel.specs.Code.Turns.{AfterBlock, AfterRead, AfterSomeRead, afterWrite};
 
 // What one read of the input came to.
 enum Turn {
@@ -15,13 +16,15 @@ enum Turn {
     Failed,
 }
 
-// Writes all of a part of the output, or says on standard error that it cannot.
-fn write_output(part: &[u8]) -> bool {
-    if io::write_all(1, part) {
-        return true;
+// Carries the line on after a write, or says on standard error that the output cannot be written.
+fn after_write(written: bool, scan: Scan) -> Turn
+    ensures { λ r. ⌜ r ≡ afterWrite written scan ⌝ }
+{
+    if written {
+        return Turn::More(scan);
     }
     io::write_all(2, b"cradlekeel: cannot write standard output\n");
-    false
+    Turn::Failed
 }
 
 // Writes the answers to the lines that end in a block of input.
@@ -34,21 +37,21 @@ fn answer_block(scan: Scan, input: &[u8], output: &mut [u8]) -> Turn
     while at < input.len() {
         let done = text::block(s, &input[at..], output);
         let n = done.written;
-        if !write_output(&output[..n]) {
+        let written = io::write_all(1, &output[..n]);
+        let Turn::More(next) = after_write(written, done.scan) else {
             return Turn::Failed;
-        }
-        s = done.scan;
+        };
+        s = next;
         at += done.read;
     }
     Turn::More(s)
 }
 
-// Reads once, and answers what was read; where it cannot read, it says so on standard error.
-fn read_block(scan: Scan, input: &mut [u8], output: &mut [u8]) -> Turn
+// Answers what a read into the input brought, or says on standard error that it cannot be read.
+fn answer_read(scan: Scan, input: &[u8], got: isize, output: &mut [u8]) -> Turn
     requires { ⌜ lineRoom ≤ length (now output) ⌝ }
-    ensures { λ r. ⌜ AfterRead scan (now (input .exit)) r ⌝ }
+    ensures { λ r. ⌜ AfterRead scan (now (input .entry)) got r ⌝ }
 {
-    let got = libc::read(0, input);
     if got < 0 {
         io::write_all(2, b"cradlekeel: cannot read standard input\n");
         return Turn::Failed;
@@ -58,6 +61,15 @@ fn read_block(scan: Scan, input: &mut [u8], output: &mut [u8]) -> Turn
     }
     let n = io::count(got, input);
     answer_block(scan, &input[..n], output)
+}
+
+// Reads once, and answers what was read.
+fn read_block(scan: Scan, input: &mut [u8], output: &mut [u8]) -> Turn
+    requires { ⌜ lineRoom ≤ length (now output) ⌝ }
+    ensures { λ r. ⌜ AfterSomeRead scan (now (input .exit)) r ⌝ }
+{
+    let got = libc::read(0, input);
+    answer_read(scan, input, got, output)
 }
 
 fn main() {
@@ -82,5 +94,6 @@ fn main() {
     }
     let mut last = [0u8; text::LINE_ROOM];
     let n = text::finish(scan, &mut last);
-    write_output(&last[..n]);
+    let written = io::write_all(1, &last[..n]);
+    after_write(written, scan);
 }

@@ -61,13 +61,16 @@ finish-requires c κs = search needs
 array-share-prefix-last : tie.Need-array-share-prefix-last Inv-loop μ-loop
 array-share-prefix-last c = wrote-fits (c .finish .ensures)
 
-slice-aggregate-write-output : tie.Need-slice-aggregate-write-output Inv-loop μ-loop
-slice-aggregate-write-output c =
+slice-aggregate-write-all : tie.Need-slice-aggregate-write-all Inv-loop μ-loop
+slice-aggregate-write-all c =
     let f = c .before .finish in
     sym (length-take-le (f .result) (f .last .1 .0) (wrote-fits (f .ensures)))
 
-write-output-requires : tie.Need-write-output-requires Inv-loop μ-loop
-write-output-requires c κs = search needs
+write-all-requires : tie.Need-write-all-requires Inv-loop μ-loop
+write-all-requires c κs = search needs
+
+after-write-requires : tie.Need-after-write-requires Inv-loop μ-loop
+after-write-requires c κs = search needs
 
 returns-2 : tie.Need-returns-2 Inv-loop μ-loop
 returns-2 c = search needs
@@ -94,6 +97,7 @@ main-spec =
     loop-again
     finish-requires
     array-share-prefix-last
-    slice-aggregate-write-output
-    write-output-requires
+    slice-aggregate-write-all
+    write-all-requires
+    after-write-requires
     returns-2)
