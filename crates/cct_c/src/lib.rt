@@ -12,7 +12,8 @@ pub extern "C" fn ck_read_uv(u: f32, v: f32, edges: &[u32], max_steps: u32) -> F
     ensures answers { λ r. ⌜ r ≡ floatAnswer (answer (now (edges .entry)) (convertReading (Reading.Uv u v)) «max_steps») ⌝ }
     ensures unchanged { λ _. ⌜ now (edges .exit) ≡ now (edges .entry) ⌝ }
 {
-    cct::answer_reading(Reading::Uv(u, v), edges, max_steps)
+    let converted = reading::convert(Reading::Uv(u, v));
+    cct::answer_converted(converted, edges, max_steps)
 }
 
 // CIE 1976 u', v'.
@@ -26,7 +27,8 @@ pub extern "C" fn ck_read_uvp(
     ensures answers { λ r. ⌜ r ≡ floatAnswer (answer (now (edges .entry)) (convertReading (Reading.UvPrime «u_prime» «v_prime»)) «max_steps») ⌝ }
     ensures unchanged { λ _. ⌜ now (edges .exit) ≡ now (edges .entry) ⌝ }
 {
-    cct::answer_reading(Reading::UvPrime(u_prime, v_prime), edges, max_steps)
+    let converted = reading::convert(Reading::UvPrime(u_prime, v_prime));
+    cct::answer_converted(converted, edges, max_steps)
 }
 
 // CIE 1931 x, y.
@@ -35,7 +37,8 @@ pub extern "C" fn ck_read_xy(x: f32, y: f32, edges: &[u32], max_steps: u32) -> F
     ensures answers { λ r. ⌜ r ≡ floatAnswer (answer (now (edges .entry)) (convertReading (Reading.Xy x y)) «max_steps») ⌝ }
     ensures unchanged { λ _. ⌜ now (edges .exit) ≡ now (edges .entry) ⌝ }
 {
-    cct::answer_reading(Reading::Xy(x, y), edges, max_steps)
+    let converted = reading::convert(Reading::Xy(x, y));
+    cct::answer_converted(converted, edges, max_steps)
 }
 
 // Tristimulus values X, Y, Z.
@@ -44,7 +47,8 @@ pub extern "C" fn ck_read_xyz(x: f32, y: f32, z: f32, edges: &[u32], max_steps: 
     ensures answers { λ r. ⌜ r ≡ floatAnswer (answer (now (edges .entry)) (convertReading (Reading.Xyz x y z)) «max_steps») ⌝ }
     ensures unchanged { λ _. ⌜ now (edges .exit) ≡ now (edges .entry) ⌝ }
 {
-    cct::answer_reading(Reading::Xyz(x, y, z), edges, max_steps)
+    let converted = reading::convert(Reading::Xyz(x, y, z));
+    cct::answer_converted(converted, edges, max_steps)
 }
 
 // CIE 1960 u and v as whole numbers in micro.
