@@ -1,15 +1,18 @@
 """Runs the answer vectors of tests/make_vectors.py through python/cradlekeel.py, that module's own examples, and examples/.
 
     python3 tests/abi_test.py               (tests/run-abi calls it, with examples/lamp.c compiled to target/abi/lamp)
-    python3 tests/abi_test.py --self-test   without the library: what is expected of the lamps, and what the documents show
+    python3 tests/abi_test.py --self-test   without the library: its absence is said, what is expected of the lamps, what the documents show
 """
 
 import doctest
 import os
 import re
+import shlex
+import shutil
 import struct
 import subprocess
 import sys
+import tempfile
 from ctypes import c_float
 from pathlib import Path
 
@@ -89,11 +92,18 @@ def check_whole_numbers():
 
 
 def check_missing_library():
-    """Without the library the error names the command that builds it."""
-    program = f"import sys; sys.path.insert(0, {str(ROOT / 'python')!r}); import cradlekeel; cradlekeel.read_xy(0.3, 0.3)"
-    environment = {**os.environ, "CRADLEKEEL_LIBRARY": "/nonexistent/libcradlekeel.so", "PYTHONDONTWRITEBYTECODE": "1"}
-    ran = subprocess.run([sys.executable, "-c", program], env=environment, capture_output=True, text=True)
-    assert ran.returncode == 1 and "LibraryMissing" in ran.stderr and f"make -C {ROOT} lib" in ran.stderr, ran.stderr
+    """Without a library, the message says what to run, or which file the variable names; the first in a folder with a space."""
+    call = "import cradlekeel; cradlekeel.read_xy(0.3127, 0.3290)"
+    with tempfile.TemporaryDirectory(prefix="no library ") as folder:
+        copy = Path(folder).resolve() / "python"
+        copy.mkdir()
+        shutil.copy(ROOT / "python" / "cradlekeel.py", copy)
+        absent = str(copy / "absent.so")
+        for named, words in ((None, f"make -C {shlex.quote(str(copy.parent))} lib"), (absent, f"CRADLEKEEL_LIBRARY names {absent}")):
+            variables = {name: value for name, value in os.environ.items() if name != "CRADLEKEEL_LIBRARY"}
+            variables |= {"PYTHONPATH": str(copy)} | ({"CRADLEKEEL_LIBRARY": named} if named else {})
+            ran = subprocess.run([sys.executable, "-c", call], env=variables, capture_output=True, text=True)
+            assert ran.returncode == 1 and "LibraryMissing" in ran.stderr and words in ran.stderr, ran.stderr
 
 
 # x and y of lamps with a class, without one, and with each refusal that x and y can meet.
@@ -147,6 +157,7 @@ def check_documents():
 
 def self_test():
     """What needs no library, so that a fault in it shows before anything is proved."""
+    check_missing_library()
     statuses = {lamp_line(lamp)[1] for lamp in LAMPS}
     assert statuses == {0, 1}, "the lamps should have both answers and refusals"
     blocks, commands = check_documents(), readme_commands.self_test()
@@ -160,7 +171,6 @@ def main():
         sys.exit(__doc__)
     count = run_vectors()
     check_whole_numbers()
-    check_missing_library()
     check_examples()
     blocks, commands = check_documents(), readme_commands.run(with_library=True)
     examples = doctest.testmod(cradlekeel)
