@@ -11,7 +11,7 @@ lib: $(LIB)/libcradlekeel.a $(LIB)/libcradlekeel.so
 $(LIB)/libcradlekeel.a: $(SOURCES)
 	@mkdir -p $(LIB)
 	@command -v rt >/dev/null || { echo "the library is not built, and the Rattle toolchain (the command rt) is not on the PATH"; exit 1; }
-	@echo "proving and building the library, which can take some minutes (rt staticlib cct_c) .."
+	@echo "proving and building the library, which can take two minutes (rt staticlib cct_c) .."
 	@rt staticlib cct_c >$(LOG) 2>&1 || { tail -n 5 $(LOG); echo "rt staticlib cct_c failed; all that it said is in $(LOG)"; exit 1; }
 	@cp target/staticlib/libcct_c.a $@
 
