@@ -5,12 +5,12 @@
 
     `cct/Answers#answer`   the name that Answers.antt of crates/cct defines: in specs, else in specs/Code, else in proofs
     `cct/Answers`          that file
-    `cct::answer_uv`       the function, `cct::Type::name` a method, `cct::Type` a type or constant of crates/cct/src
-    `cct@answer_uv`        the function's proof: Proof.antt in the folder of its name in crates/cct/proofs
-    `cct!ends_swapped`     the must-fail edit crates/cct/must-fail/ends_swapped.edit
+    `cct::answer_micro`    the function, `cct::Type::name` a method, `cct::Type` a type or constant of crates/cct/src
+    `cct@answer_micro`     the function's proof: Proof.antt in the folder of its name in crates/cct/proofs
+    `cct!fixed_place`      the must-fail edit crates/cct/must-fail/fixed_place.edit
     `tests/fuzz`           a path
 
-Several names after one mark are separated by commas: `cct::answer_uv, answer_reading`. Outside backticks `vectors uv, xy`
+Several names after one mark are separated by commas: `cct::answer_micro, answer_reading`. Outside backticks `vectors uv, xy`
 stands for lines of crates/vectors/stdin by their first word, and there must be some."""
 
 import re

@@ -12,6 +12,7 @@ use Rattle.arith.specs.Root.{root}
 use Rattle.arith.specs.RootLaws.{root-law}
 use Rattle.refusal.specs.NumberLaws.{number-positive}
 use Rattle.reading.specs.declared.Converted.{Converted}
+use Rattle.locus.specs.Stored.{firstPlace, lastPlace}
 use Rattle.locus.specs.Locus.{locusV, distanceAt, entryDistance}
 use Rattle.locus.specs.LocusLaws.{entry-distance}
 use Rattle.locus.specs.Admission.{nearestEntry, limit}
@@ -25,8 +26,8 @@ use Rattle.cct.specs.RefusalLaws.{Decided, refusal, clear, decided, cond
 
 -- a place of the locus, and a Duv no farther than the limit of refusal 5
 pub record Bounded (a : Answer) : Type 0 where
-  pub from : 5168 ≤ a .place
-  pub to : a .place ≤ 64600
+  pub from : firstPlace ≤ a .place
+  pub to : a .place ≤ lastPlace
   pub duv : natAbs (a .duv) * natAbs (a .duv) ≤ limit
 
 sign-size : (b : Bool) (r : ℕ) → natAbs (cond b (pos r) (negℤ (pos r))) ≡ r

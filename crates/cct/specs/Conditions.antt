@@ -30,5 +30,3 @@ pub record Clear (es : List ℕ) (c : Converted) (u v : ℕ) : Type 0 where
   pub near : tooFar u v ≡ false
   pub not-hot : past u v 1 2 ≡ false
   pub not-cool : past u v 24 23 ≡ false
-
--- it gets the accepted answer about its nearest entry

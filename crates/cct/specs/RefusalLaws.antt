@@ -25,7 +25,7 @@ condition-refused es c r (too-far u v a f) n = rw (a .edges, a .point, f) refl
 condition-refused es c r (too-hot u v a f h) n = rw (a .edges, a .point, f, h) refl
 condition-refused es c r (too-cool u v a f h k) n = rw (a .edges, a .point, f, h, k) refl
 
--- where no condition is met, the reading is answered
+-- where no condition is met, the reading gets the accepted answer about its nearest entry
 pub clear-accepted : (es : List ℕ) (c : Converted) (u v : ℕ) → Clear es c u v → (n : ℕ) → answer es c n ≡ accepted es n u v (nearestEntry u v)
 unfolding answer checked checkedPoint admission
 clear-accepted es c u v k n = rw (k .at .edges, k .at .point, k .near, k .not-hot, k .not-cool) refl

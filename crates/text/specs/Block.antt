@@ -6,7 +6,6 @@ use mathlib.Core.Bool.{cond}
 use lib.ListN.{length, take}
 use lib.Dec.{ltb, eqb}
 use Rattle.text.specs.declared.grammar.Scan.{Scan}
-use Rattle.text.specs.declared.stream.Next.{Next}
 use Rattle.text.specs.declared.stream.Done.{Done}
 use Rattle.text.specs.Line.{newline}
 use Rattle.text.specs.Code.Scan.{emptyScan, scanByte, isEmpty, scanLine}
@@ -46,11 +45,6 @@ lineRoom = 80
 abbrev pub reads : Scan → ℕ → List ℕ → ℕ
 reads s room [] = 0
 reads s room (x ∷ l) = cond (ltb room lineRoom) 0 (suc (reads (nextScan s x) (room - length (emitted s x)) l))
-
--- one byte was taken
-pub record Taken (s : Scan) (x at : ℕ) (old new : List ℕ) (r : Next) : Type 0 where
-  pub scan : r .scan ≡ nextScan s x
-  pub wrote : Wrote at old new (r .written) (emitted s x)
 
 -- a block was read, as far as there was room
 pub record Blocked (s : Scan) (input old new : List ℕ) (r : Done) : Type 0 where

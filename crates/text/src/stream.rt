@@ -6,7 +6,8 @@ ghost use mathlib.Core.Path.{_≡_};
 ghost use lib.ListN.{length};
 ghost use Prim.Native.Nat.{_+_, _≤_};
 ghost use Rattle.text.specs.Wrote.{Wrote};
-ghost use Rattle.text.specs.Block.{closes, lineRoom, Taken, Blocked};
+ghost use Rattle.text.specs.Block.{closes, lineRoom, Blocked};
+ghost use Rattle.text.specs.Code.Taken.{Taken};
 
 // Room for any answer with its newline.
 pub const LINE_ROOM: usize = 80;

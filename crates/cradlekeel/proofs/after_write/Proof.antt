@@ -1,5 +1,5 @@
 -- Each way of the test gives its own side of the definition.
-use mathlib.Core.Path.{_≡_, ap, sym}
+use mathlib.Core.Path.{ap, sym}
 use mathlib.Core.Bool.{Bool}
 use borrow.Author.Needs.{needs}
 use Rattle.cradlekeel.specs.Code.Turns.{afterWrite}
