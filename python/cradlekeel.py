@@ -10,8 +10,8 @@ variable CRADLEKEEL_LIBRARY names a library in another place. Only Python's stan
 whole program.
 
 The library takes single-precision floats. A Python float is a double, and it is rounded to the nearest single when it is
-handed over: 0.3127 is answered as 0.312700003385543823..., 0.99999999 becomes 1 and is refused, and 1e39 becomes an infinity. What then happens to the
-single is exact. `read_micro` takes whole numbers and rounds nothing.
+handed over: 0.3127 is answered as 0.312700003385543823..., 0.99999999 becomes 1 and is refused, and 1e39 becomes an
+infinity. What then happens to the single is exact. `read_micro` takes whole numbers and rounds nothing.
 
 A reading that has no answer raises `Refusal`. A whole number that does not fit 32 bits raises `ValueError`.
 """
