@@ -52,15 +52,19 @@ is-point (Xy x y) = (_, _, refl)
 is-point (Xyz x y z) = (_, _, refl)
 
 -- what is a point is not refused
-never : {A : Type 0} {c : Converted} {u v : ℕ} {s : Refusal} → c ≡ Point u v → c ≡ Refused s → A
+pub never : {A : Type 0} {c : Converted} {u v : ℕ} {s : Refusal} → c ≡ Point u v → c ≡ Refused s → A
 never p q = let z : _≡_ {A = ℕ} 0 1 = cc in absurd (omega arith)
+
+-- what holds of a refusal that is given holds of whichever refusal is given
+pub of-given : {c : Converted} {t s : Refusal} (P : Refusal → Type 0) → c ≡ Refused t → c ≡ Refused s → P t → P s
+of-given {t = t} {s = s} P p q k = let e : t ≡ s = cc in subst P e k
 
 -- a refusal that is given has its condition
 pub reading-refused-condition : (r : Reading) (s : Refusal) → convertReading r ≡ Refused s → ReadingCondition r s
 reading-refused-condition r s e = go (allFinite r) (allInRange r) (isDark r) refl refl refl
   where
     given : {t : Refusal} → ReadingCondition r t → ReadingCondition r s
-    given {t} k = let p : convertReading r ≡ Refused t = reading-condition-refused r t k in let q : t ≡ s = cc in subst (ReadingCondition r) q k
+    given {t} k = of-given (ReadingCondition r) (reading-condition-refused r t k) e k
 
     go : (f i d : Bool) → allFinite r ≡ f → allInRange r ≡ i → isDark r ≡ d → ReadingCondition r s
     go false i d a b c = given (not-finite a)
@@ -76,10 +80,7 @@ micro-condition-refused u v s (v-over h) = rw (second-fails (leb u microLimit) (
 pub micro-refused-condition : (u v : ℕ) (s : Refusal) → convertMicro u v ≡ Refused s → MicroCondition u v s
 micro-refused-condition u v s = go (leb u microLimit) (leb v microLimit) refl refl
   where
-    same : {c : Converted} → c ≡ Refused OutOfRange → c ≡ Refused s → MicroCondition u v OutOfRange → MicroCondition u v s
-    same p q k = let e : OutOfRange ≡ s = cc in subst (MicroCondition u v) e k
-
     go : (a b : Bool) → leb u microLimit ≡ a → leb v microLimit ≡ b → cond (a && b) (Point u v) (Refused OutOfRange) ≡ Refused s → MicroCondition u v s
-    go false b x y e = same refl e (u-over (leb-false u microLimit x))
-    go true false x y e = same refl e (v-over (leb-false v microLimit y))
+    go false b x y e = of-given (MicroCondition u v) refl e (u-over (leb-false u microLimit x))
+    go true false x y e = of-given (MicroCondition u v) refl e (v-over (leb-false v microLimit y))
     go true true x y e = never refl e

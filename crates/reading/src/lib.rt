@@ -116,7 +116,7 @@ fn of_xy(x: u32, y: u32) -> Converted
 }
 
 // u and v from X, Y and Z.
-fn of_xyz(x: u32, y: u32, z: u32) -> Converted
+pub fn of_xyz(x: u32, y: u32, z: u32) -> Converted
     ensures { λ r. ⌜ r ≡ ofXyz x y z ⌝ }
 {
     point_over(x, y, x as u64 + 15 * y as u64 + 3 * z as u64)

@@ -1,11 +1,12 @@
 -- No refusal has the number 0, and no two have the same.
 use mathlib.Core.Path.{_≡_, refl, sym, ap, _∙_}
-use mathlib.Core.Bool.{cond}
-use Prim.Native.Nat.{ℕ, _<_}
-use lib.Dec.{eqb, lit<}
+use mathlib.Core.List.{List, [], _∷_}
+use Prim.Native.Nat.{ℕ, _-_, _<_}
+use lib.Dec.{lit<}
+use lib.ListN.{getD}
 use Rattle.refusal.specs.Number.{numberOf}
 use Rattle.refusal.specs.declared.Refusal.{Refusal}
-use Rattle.refusal.specs.declared.Refusal.the-variants.{BadEdges, NotFinite, OutOfRange, TooDark, TooFar, TooHot, TooCool, BadLine}
+use Rattle.refusal.specs.declared.Refusal.the-variants.{BadEdges, NotFinite, OutOfRange, TooDark, TooFar, TooHot, TooCool, BadLine, BadLengths, SampleTooLarge}
 
 -- no refusal has the number of an accepted answer, 0
 pub number-positive : (r : Refusal) → 0 < numberOf r
@@ -17,18 +18,19 @@ number-positive TooFar = lit< tt
 number-positive TooHot = lit< tt
 number-positive TooCool = lit< tt
 number-positive BadLine = lit< tt
+number-positive BadLengths = lit< tt
+number-positive SampleTooLarge = lit< tt
+
+-- the refusals in the order of their numbers
+refusals : List Refusal
+refusals = BadEdges ∷ NotFinite ∷ OutOfRange ∷ TooDark ∷ TooFar ∷ TooHot ∷ TooCool ∷ BadLine ∷ BadLengths ∷ SampleTooLarge ∷ []
 
 -- the refusal that has the number n
 refusalOf : ℕ → Refusal
-refusalOf n =
-    cond (eqb n 1) BadEdges
-    (cond (eqb n 2) NotFinite
-    (cond (eqb n 3) OutOfRange
-    (cond (eqb n 4) TooDark
-    (cond (eqb n 5) TooFar (cond (eqb n 6) TooHot (cond (eqb n 7) TooCool BadLine))))))
+refusalOf n = getD refusals (n - 1) BadEdges
 
 of-number : (r : Refusal) → refusalOf (numberOf r) ≡ r
-unfolding refusalOf
+unfolding refusals refusalOf
 of-number BadEdges = refl
 of-number NotFinite = refl
 of-number OutOfRange = refl
@@ -37,6 +39,8 @@ of-number TooFar = refl
 of-number TooHot = refl
 of-number TooCool = refl
 of-number BadLine = refl
+of-number BadLengths = refl
+of-number SampleTooLarge = refl
 
 -- two refusals with one number are one refusal
 pub number-injective : (r s : Refusal) → numberOf r ≡ numberOf s → r ≡ s

@@ -1,4 +1,4 @@
-// The refusals of document 01, "Numbers given instead of an answer", each under a name.
+// The refusals of document 01, "Numbers given instead of an answer", and of document 02, each under a name.
 ghost use mathlib.Core.Path.{_≡_};
 ghost use Rattle.refusal.specs.Number.{numberOf};
 
@@ -9,7 +9,7 @@ pub enum Refusal {
     NotFinite,
     // A number outside its range.
     OutOfRange,
-    // Tristimulus values whose Y is too small.
+    // Tristimulus values, or sums of spectral samples, whose Y is too small.
     TooDark,
     // The nearest stored entry is farther than the limit.
     TooFar,
@@ -19,6 +19,10 @@ pub enum Refusal {
     TooCool,
     // A line of text that cannot be read.
     BadLine,
+    // Samples and observer tables of different lengths, or none of them, or too many.
+    BadLengths,
+    // A sample or an observer table's number over its limit.
+    SampleTooLarge,
 }
 
 impl Refusal {
@@ -34,6 +38,8 @@ impl Refusal {
             Refusal::TooHot => 6,
             Refusal::TooCool => 7,
             Refusal::BadLine => 8,
+            Refusal::BadLengths => 9,
+            Refusal::SampleTooLarge => 10,
         }
     }
 }

@@ -13,7 +13,8 @@ of-case e = sym (ap numberOf e)
 pub number-spec : {M : Type 1} → statement M
 number-spec =
     tie.close
-    (tie.spec (λ c. search needs) (λ c. search needs) (λ c. search needs) (λ c. search needs) (λ c. search needs) (λ c. search needs) (λ c. search needs) (λ c. search needs)
+    (tie.spec (λ c. search needs) (λ c. search needs) (λ c. search needs) (λ c. search needs) (λ c. search needs)
+    (λ c. search needs) (λ c. search needs) (λ c. search needs) (λ c. search needs) (λ c. search needs)
     (λ c. of-case (c .enum-told .given .1))
     (λ c. of-case (c .enum-told2 .given .1))
     (λ c. of-case (c .enum-told3 .given .1))
@@ -21,4 +22,6 @@ number-spec =
     (λ c. of-case (c .enum-told5 .given .1))
     (λ c. of-case (c .enum-told6 .given .1))
     (λ c. of-case (c .enum-told7 .given .1))
-    (λ c. of-case (c .enum-told8 .given .1)))
+    (λ c. of-case (c .enum-told8 .given .1))
+    (λ c. of-case (c .enum-told9 .given .1))
+    (λ c. of-case (c .enum-told10 .given .1)))
