@@ -29,7 +29,7 @@ abbrev pub checkedAt : ℕ → ℕ → Admission → Checked
 checkedAt u v (admitted.Near m d) = passed u v m
 checkedAt u v (admitted.Refused r) = refusedBy r
 
--- before them stands a refusal 2, 3 or 4 that the conversion found
+-- before them stands a refusal that the conversion found: 2, 3 or 4 of a reading, 9, 10 or 4 of spectral samples
 unfoldable pub checkedPoint : Converted → Checked
 checkedPoint (converted.Point u v) = checkedAt u v (admission u v)
 checkedPoint (converted.Refused r) = refusedBy r

@@ -1,4 +1,4 @@
--- When document 01's table gives each refusal: its condition, with those before it not met.
+-- When each refusal is given: its condition, with those before it not met (document 01's table; 9 and 10 from document 02, No. 1).
 use mathlib.Core.Path.{_≡_}
 use mathlib.Core.Bool.{true, false}
 use mathlib.Core.List.{List}
@@ -15,8 +15,8 @@ pub record At (es : List ℕ) (c : Converted) (u v : ℕ) : Type 0 where
   pub edges : edgesValid es ≡ true
   pub point : c ≡ converted.Point u v
 
--- the condition of each refusal, with those before it not met. Between 1 and 5 comes what the conversion refused: 2, 3 or 4, whose
--- conditions stand in `reading`
+-- the condition of each refusal, with those before it not met. Between 1 and 5 comes what the conversion refused: 2, 3 or 4 of a
+-- reading, whose conditions stand in `reading`; 9, 10 or 4 of spectral samples, whose conditions stand in `spectral`
 pub data Condition (es : List ℕ) (c : Converted) : Refusal → Type 0 where
   bad-edges : edgesValid es ≡ false → Condition es c BadEdges
   not-converted : (r : Refusal) → edgesValid es ≡ true → c ≡ converted.Refused r → Condition es c r

@@ -7,6 +7,7 @@ use native.Mathlib.Omega.{arith}
 use Rattle.reading.specs.declared.Reading.{Reading}
 use Rattle.reading.specs.declared.Converted.{Converted}
 use Rattle.reading.specs.Convert.{convertReading, convertMicro}
+use Rattle.spectral.specs.Samples.{convertSamples}
 use Rattle.locus.specs.Locus.{distanceAt}
 use Rattle.locus.specs.Admission.{nearestEntry}
 use Rattle.locus.specs.AdmissionLaws.{nearest-range}
@@ -85,6 +86,10 @@ reading-refines es reading = demand-3 es (convertReading reading)
 -- for u and v as whole numbers
 pub micro-refines : (es : List ℕ) (u v n₁ n₂ : ℕ) → n₁ ≤ n₂ → Demand3 es (convertMicro u v) n₁ n₂
 micro-refines es u v = demand-3 es (convertMicro u v)
+
+-- for spectral samples s with the observer's tables x, y and z
+pub samples-refines : (es s x y z : List ℕ) (n₁ n₂ : ℕ) → n₁ ≤ n₂ → Demand3 es (convertSamples s x y z) n₁ n₂
+samples-refines es s x y z = demand-3 es (convertSamples s x y z)
 
 -- a class that is named is never changed by more steps
 pub class-never-changes : (es : List ℕ) (c : Converted) (n₁ n₂ : ℕ) → n₁ ≤ n₂ → (answer es c n₁ .class ≡ noClass → ⊥) → answer es c n₂ .class ≡ answer es c n₁ .class

@@ -1,4 +1,4 @@
--- Demand 2: each refusal is given exactly under its condition, when no earlier condition of document 01's table holds.
+-- Demand 2: each refusal is given exactly under its condition, when no condition that comes before it holds.
 use mathlib.Core.Path.{_≡_, refl, sym, ap, subst, _∙_}
 use mathlib.Core.Bool.{Bool, true, false}
 use mathlib.Core.List.{List}

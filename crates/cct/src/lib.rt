@@ -10,6 +10,7 @@ ghost use Prim.Native.Nat.{_<_};
 ghost use lib.Dec.{leb};
 ghost use lib.IntN.{pos, negℤ};
 ghost use Rattle.reading.specs.Convert.{convertReading, convertMicro};
+ghost use Rattle.spectral.specs.Samples.{convertSamples};
 ghost use Rattle.locus.specs.Admission.{admission};
 ghost use Rattle.locus.specs.Code.Pieces.{spanAbout};
 ghost use Rattle.cct.specs.Answers.{duvAt, refused, accepted, answered, checkedPoint, answer};
@@ -189,4 +190,36 @@ pub fn answer_micro(u: u32, v: u32, edges: &[u32], max_steps: u32) -> FloatAnswe
     ensures unchanged { λ r. ⌜ now (edges .exit) ≡ now (edges .entry) ⌝ }
 {
     answer_converted(reading::convert_micro(u, v), edges, max_steps)
+}
+
+// The whole-number answer to spectral samples with the observer's three tables.
+pub fn whole_answer_samples(
+    samples: &[u32],
+    x_bar: &[u32],
+    y_bar: &[u32],
+    z_bar: &[u32],
+    edges: &[u32],
+    max_steps: u32,
+) -> Answer
+    ensures answers { λ r. ⌜ r ≡ answer (now (edges .entry)) (convertSamples (now (samples .entry)) (now («x_bar» .entry)) (now («y_bar» .entry)) (now («z_bar» .entry))) «max_steps» ⌝ }
+    ensures unchanged { λ r. ⌜ (now (samples .exit) ≡ now (samples .entry)) × (now («x_bar» .exit) ≡ now («x_bar» .entry)) × (now («y_bar» .exit) ≡ now («y_bar» .entry)) × (now («z_bar» .exit) ≡ now («z_bar» .entry)) × (now (edges .exit) ≡ now (edges .entry)) ⌝ }
+{
+    let converted = spectral::convert_samples(samples, x_bar, y_bar, z_bar);
+    whole_answer_converted(converted, edges, max_steps)
+}
+
+// The answer to spectral samples with the observer's three tables.
+pub fn answer_samples(
+    samples: &[u32],
+    x_bar: &[u32],
+    y_bar: &[u32],
+    z_bar: &[u32],
+    edges: &[u32],
+    max_steps: u32,
+) -> FloatAnswer
+    ensures answers { λ r. ⌜ r ≡ floatAnswer (answer (now (edges .entry)) (convertSamples (now (samples .entry)) (now («x_bar» .entry)) (now («y_bar» .entry)) (now («z_bar» .entry))) «max_steps») ⌝ }
+    ensures unchanged { λ r. ⌜ (now (samples .exit) ≡ now (samples .entry)) × (now («x_bar» .exit) ≡ now («x_bar» .entry)) × (now («y_bar» .exit) ≡ now («y_bar» .entry)) × (now («z_bar» .exit) ≡ now («z_bar» .entry)) × (now (edges .exit) ≡ now (edges .entry)) ⌝ }
+{
+    let whole = whole_answer_samples(samples, x_bar, y_bar, z_bar, edges, max_steps);
+    float_answer(whole)
 }

@@ -3,6 +3,7 @@ use cct::FloatAnswer;
 use reading::Reading;
 ghost use mathlib.Core.Path.{_≡_};
 ghost use Rattle.reading.specs.Convert.{convertReading, convertMicro};
+ghost use Rattle.spectral.specs.Samples.{convertSamples};
 ghost use Rattle.cct.specs.Answers.{answer};
 ghost use Rattle.cct.specs.FloatAnswers.{floatAnswer};
 
@@ -58,4 +59,20 @@ pub extern "C" fn ck_read_micro(u: u32, v: u32, edges: &[u32], max_steps: u32) -
     ensures unchanged { λ _. ⌜ now (edges .exit) ≡ now (edges .entry) ⌝ }
 {
     cct::answer_micro(u, v, edges, max_steps)
+}
+
+// Spectral samples, with the observer's tables.
+#[no_mangle]
+pub extern "C" fn ck_read_samples(
+    samples: &[u32],
+    x_bar: &[u32],
+    y_bar: &[u32],
+    z_bar: &[u32],
+    edges: &[u32],
+    max_steps: u32,
+) -> FloatAnswer
+    ensures answers { λ r. ⌜ r ≡ floatAnswer (answer (now (edges .entry)) (convertSamples (now (samples .entry)) (now («x_bar» .entry)) (now («y_bar» .entry)) (now («z_bar» .entry))) «max_steps») ⌝ }
+    ensures unchanged { λ _. ⌜ (now (samples .exit) ≡ now (samples .entry)) × (now («x_bar» .exit) ≡ now («x_bar» .entry)) × (now («y_bar» .exit) ≡ now («y_bar» .entry)) × (now («z_bar» .exit) ≡ now («z_bar» .entry)) × (now (edges .exit) ≡ now (edges .entry)) ⌝ }
+{
+    cct::answer_samples(samples, x_bar, y_bar, z_bar, edges, max_steps)
 }
