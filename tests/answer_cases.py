@@ -15,6 +15,7 @@ from readings import (AS_FLOATS, admitted, as_xyz, at_the_limit, behind_an_end, 
 
 LARGEST_U32 = 2**32 - 1
 ALLOWANCES = tuple(range(16)) + (100, 2**31, LARGEST_U32)
+REFINEMENTS = (*range(16), LARGEST_U32)  # the allowances at which demand 3 compares one reading
 TEXT_EDGES = ref.TEXT_EDGES
 WIDE_EDGES = (1600, 20001)
 
@@ -175,16 +176,16 @@ def refinement_readings(dice):
 
 def check_refinement(kind, args, edges):
     """Demand 3 on what the reference expects: one call at every allowance, each compared with every later one."""
-    given = [ref.answer(kind, args, edges, n) for n in range(17)]
+    given = [ref.answer(kind, args, edges, n) for n in REFINEMENTS]
     if given[0].refusal:
         assert all(later == given[0] for later in given)
         return
     reading = ref.CONVERSIONS[kind](*args)
     g = ref.bracket(ref.nearest_entry(reading))[2]
-    for n, first in enumerate(given):
-        assert first.refusal == 0 and first.steps == min(n, 14)
+    for k, (allowance, first) in enumerate(zip(REFINEMENTS, given)):
+        assert first.refusal == 0 and first.steps == min(allowance, 14)
         assert first.p - first.o == g * ref.F(18 - first.steps)
-        for later in given[n:]:
+        for later in given[k:]:
             assert first.o <= later.o and later.p <= first.p
             assert ref.distance_at(reading, later.place) <= ref.distance_at(reading, first.place)
             assert first.cls in (ref.NO_CLASS, later.cls)
@@ -198,7 +199,7 @@ def refinement_lines(dice):
         args = reading if kind == "whole" else AS_FLOATS[kind](*reading)
         edges = edges_around(ref.found_after(reading, dice.below(15)), dice)
         check_refinement(kind, args, edges)
-        for allowance in (*range(16), LARGEST_U32):
+        for allowance in REFINEMENTS:
             yield line(kind, args, allowance, edges)
 
 
@@ -211,11 +212,15 @@ def lines():
         yield from section(Dice(section.__name__))
 
 
+def answered(kind, args, fields):
+    """`refusal place low high duv steps class KELVINBITS DUVBITS`; the fields are `ALLOWANCE EDGES..`."""
+    allowance, *edges = map(int, fields)
+    given = ref.answer(kind, args, edges, allowance)
+    return "%d %d %d %d %d %d %d %016x %016x" % (*given, *ref.float_bits(given))
+
+
 def expected(text):
-    """`refusal place low high duv steps class KELVINBITS DUVBITS`."""
     _, kind, *fields = text.split()
     count = 3 if kind == "xyz" else 2
     args = [int(field, 10 if kind == "whole" else 16) for field in fields[:count]]
-    allowance, *edges = map(int, fields[count:])
-    given = ref.answer(kind, args, edges, allowance)
-    return "%d %d %d %d %d %d %d %016x %016x" % (*given, *ref.float_bits(given))
+    return answered(kind, args, fields[count:])

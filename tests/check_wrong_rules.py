@@ -2,9 +2,10 @@
 
     python3 tests/check_wrong_rules.py      the rules that are caught, how many, and the names of those that are not
 
-The first six are the mistakes that document 01 warns of; the others are near misses that its rules leave room for. Those of
-the text program are tried on the first lines of its committed input, then on more, and at last on all of it. A wrong rule with
-which the reference cannot go on shows nothing, and ends the check."""
+The first six are the mistakes that document 01 warns of; the others are near misses that its rules, and those of document 02,
+leave room for. Those of spectral samples are tried on the vectors of samples, those of the text program on the first lines of its
+committed input, then on more, and at last on all of it, and the others on the other vectors. A wrong rule with which the reference
+cannot go on shows nothing, and ends the check."""
 
 import re
 import sys
@@ -18,15 +19,15 @@ from pathlib import Path
 sys.dont_write_bytecode = True
 sys.path.insert(0, str(Path(__file__).resolve().parent))
 
-import answer_cases
-import convert_cases
-import core_cases
 import reference as ref
+import sample_cases
+import vectors
 from floats import exact_value, is_finite
 from hard_floats import single_precision_product
+from sample_lists import Lists, changes
+from wrong_sample_rules import WRONG_SAMPLE_RULES
 
 CRATES = Path(__file__).resolve().parent.parent / "crates"
-PARTS = {"answer": answer_cases, **{kind: core_cases for kind in ("point", "entry", "search", "class", "edges")}}
 
 
 def too_far_by_the_point_found(reading, admit=ref.admit):
@@ -211,10 +212,19 @@ def put_in(name, wrong):
         ref.locus_point.cache_clear()
 
 
-def first_caught(vectors):
+def is_of_samples(line):
+    return vectors.kind_of(line) in sample_cases.KINDS
+
+
+def shown(line, held):
+    """A vector's line; for spectral samples the lists that it is about too."""
+    about = changes(Lists(), held) if is_of_samples(line) else []
+    return ", ".join([line, *(text.removeprefix("list ") for text in about)])
+
+
+def first_caught(committed):
     """The first vector whose answer changes."""
-    changed = (line for line, answer in vectors if PARTS.get(line.split()[0], convert_cases).expected(line) != answer)
-    return next(changed, None)
+    return next((shown(line, held) for line, held, answer in committed if vectors.expected(line, held) != answer), None)
 
 
 def first_caught_text(texts):
@@ -238,15 +248,15 @@ def committed_texts():
 
 
 def committed_vectors():
-    """(line, answer) of each committed vector, the kinds in turn, so that every kind is met early."""
+    """(line, the lists held, answer) of each committed vector, the kinds in turn, so that every kind is met early."""
     lines, answers = ((CRATES / "vectors" / name).read_text().splitlines() for name in ("stdin", "stdout"))
     count = Counter()
     turns = []
-    for line in lines:
-        kind = line.split()[0]
+    for (line, held), answer in zip(vectors.with_held(lines), answers):
+        kind = vectors.kind_of(line)
         count[kind] += 1
-        turns.append(count[kind])
-    return [pair for _, pair in sorted(zip(turns, zip(lines, answers)), key=lambda ranked: ranked[0])]
+        turns.append((count[kind], (line, held, answer)))
+    return [vector for _, vector in sorted(turns, key=lambda ranked: ranked[0])]
 
 
 def missed_of(rules, shown_by):
@@ -262,12 +272,17 @@ def missed_of(rules, shown_by):
 
 
 def main():
-    vectors, texts = committed_vectors(), committed_texts()
+    committed, texts = committed_vectors(), committed_texts()
+    of_samples = [vector for vector in committed if is_of_samples(vector[0])]
+    others = [vector for vector in committed if not is_of_samples(vector[0])]
     assert first_caught_text(texts) is None, "the right rules give another output"
-    missed = missed_of(WRONG_RULES, lambda: first_caught(vectors)) + missed_of(WRONG_TEXT_RULES, lambda: first_caught_text(texts))
+    assert first_caught(of_samples) is None, "the right rules give another answer"
+    missed = missed_of(WRONG_RULES, lambda: first_caught(others))
+    missed += missed_of(WRONG_SAMPLE_RULES, lambda: first_caught(of_samples))
+    missed += missed_of(WRONG_TEXT_RULES, lambda: first_caught_text(texts))
     if missed:
         sys.exit("check_wrong_rules: not caught: " + ", ".join(missed))
-    print("check_wrong_rules: all %d wrong rules are caught" % (len(WRONG_RULES) + len(WRONG_TEXT_RULES)))
+    print("check_wrong_rules: all %d wrong rules are caught" % (len(WRONG_RULES) + len(WRONG_SAMPLE_RULES) + len(WRONG_TEXT_RULES)))
 
 
 if __name__ == "__main__":

@@ -145,11 +145,14 @@ def lines():
         yield from section
 
 
-def expected(line):
+def converted(kind, args):
     """`0 u v`, or the refusal's number alone."""
-    kind, *fields = line.split()
-    args = [int(field, 10 if kind == "whole" else 16) for field in fields]
     try:
         return "0 %d %d" % tuple(ref.CONVERSIONS[kind](*args))
     except ref.Refused as refused:
         return "%d" % refused.number
+
+
+def expected(line):
+    kind, *fields = line.split()
+    return converted(kind, [int(field, 10 if kind == "whole" else 16) for field in fields])

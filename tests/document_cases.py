@@ -1,5 +1,5 @@
 """Document 01's own cases, typed in from the document and never from a program's output: the listing, the (P) cases
-and the "Also run" list. `check()` holds the reference to all of them."""
+and the "Also run" list; and cases of document 02's No. 1, worked out by hand. `check()` holds the reference to all of them."""
 
 from fractions import Fraction
 
@@ -41,6 +41,23 @@ REFUSALS = (
     ("uv", ("1/4", "1/4"), (5000, 5000), 1),
 )
 
+# samples, x_bar, y_bar, z_bar; then u and v, or the refusal's number.
+SPECTRA = (
+    (((1,), (1,), (1,), (1,)), (210526, 315789)),  # X = Y = Z, the ratios of XYZ (100, 100, 100)
+    (((16_777_215,) * 471, (4_000_000,) * 471, (4_000_000,) * 471, (4_000_000,) * 471), (210526, 315789)),
+    (((2, 3), (1, 0), (0, 1), (1, 1)), (129032, 290323)),  # X, Y, Z are 2, 3, 5 and n is 62
+    (((1_048_576, 1), (4095, 1_048_575), (0, 1), (0, 0)), (4_000_000, 0)),  # X = 2^32 - 1 is not divided, and Y stays 1
+    (((1_048_576, 1), (4096, 0), (0, 2), (0, 0)), (4_000_000, 0)),  # X = 2^32 is halved, and Y becomes 1
+    (((1_048_576, 1), (4096, 0), (0, 1), (0, 0)), 4),  # X = 2^32 is halved, and Y becomes 0
+    (((0,), (1,), (1,), (1,)), 4),
+    (((), (), (), ()), 9),
+    (((1,) * 472, (1,) * 472, (1,) * 472, (1,) * 472), 9),
+    (((1,), (1,), (1, 1), (1,)), 9),
+    (((16_777_216,), (1,), (1, 1), (1,)), 9),
+    (((16_777_216,), (0,), (0,), (0,)), 10),
+    (((1,), (1,), (1,), (4_000_001,)), 10),
+)
+
 
 def bits(text):
     """The f32 bits of a fraction written as text, or of a NaN."""
@@ -66,6 +83,15 @@ def check_refusals():
         assert found == ref.Answer(expected), (kind, args, edges, expected, found)
 
 
+def check_spectra():
+    for lists, expected in SPECTRA:
+        try:
+            found = ref.convert_samples(*lists)
+        except ref.Refused as refused:
+            found = refused.number
+        assert found == expected, (lists, expected, found)
+
+
 def check_allowances():
     """Allowances 13, 14, 15 and the largest: no search takes more than 14 steps."""
     given = [ref.answer("whole", (219300, 327100), GOOD_EDGES, n) for n in (13, 14, 15, LARGEST_U32)]
@@ -88,5 +114,6 @@ def check():
     check_conversions()
     check_listing()
     check_refusals()
+    check_spectra()
     check_allowances()
     check_stored_locus()

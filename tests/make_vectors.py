@@ -13,25 +13,20 @@ from pathlib import Path
 sys.dont_write_bytecode = True
 sys.path.insert(0, str(Path(__file__).resolve().parent))
 
-import answer_cases
-import convert_cases
-import core_cases
 import document_cases
 import reference
+import spectra
 import text_cases
+import vectors
 
 ROOT = Path(__file__).resolve().parent.parent
-VECTOR_SECTIONS = (convert_cases, core_cases, answer_cases)  # in the order of the file
 
 
 def vector_files():
     """The vectors program's input and what it must write, one vector to a line."""
-    lines, answers = [], []
-    for section in VECTOR_SECTIONS:
-        for line in section.lines():
-            lines.append(line)
-            answers.append(section.expected(line))
-    summary = Counter(" ".join(line.split()[:2]) if line.startswith("answer") else line.split()[0] for line in lines)
+    lines = vectors.lines()
+    answers = [vectors.expected(line, held) for line, held in vectors.with_held(lines)]
+    summary = Counter(map(vectors.kind_of, lines))
     print("vectors: %d lines (%s)" % (len(lines), ", ".join("%s %d" % pair for pair in summary.items())))
     return {"crates/vectors/stdin": joined(lines), "crates/vectors/stdout": joined(answers)}
 
@@ -84,6 +79,7 @@ def main():
         sys.exit(__doc__)
     started = time.monotonic()
     document_cases.check()
+    spectra.check_table()
     files = {name: wanted for part in PARTS for name, wanted in part().items()}
     (check if sys.argv[1:] else write)(files)
     print("make_vectors: %s in %.1f s" % ("no difference" if sys.argv[1:] else "written", time.monotonic() - started))

@@ -1,20 +1,22 @@
-"""The rules of document 01 in exact whole numbers and fractions: the independent second program.
+"""The rules of document 01, and of request No. 1 of document 02, in exact whole numbers and fractions: the independent second
+program.
 
-It follows the document's own words, letters and sections and shares no code with the crates. Where a rule can be said in
+It follows the documents' own words, letters and sections and shares no code with the crates. Where a rule can be said in
 another way than there, it is: the locus goes by mired, the bracket by its three cases, the nearest point seen by all points
-seen, the class by the kelvin of each place.
+seen, the class by the kelvin of each place, the power of two of a spectrum by trying one after the other.
 """
 
 import re
 from fractions import Fraction
 from functools import lru_cache
+from itertools import count
 from math import floor, isqrt
 from typing import NamedTuple
 
 from floats import exact_value, is_finite, quotient_bits
 
-# "Numbers given instead of an answer".
-BAD_EDGES, NOT_FINITE, OUT_OF_RANGE, TOO_DARK, TOO_FAR, TOO_HOT, TOO_COOL, UNREADABLE = range(1, 9)
+# "Numbers given instead of an answer"; document 02 adds the last two.
+BAD_EDGES, NOT_FINITE, OUT_OF_RANGE, TOO_DARK, TOO_FAR, TOO_HOT, TOO_COOL, UNREADABLE, BAD_LENGTHS, SAMPLE_TOO_LARGE = range(1, 11)
 
 
 class Refused(Exception):
@@ -69,12 +71,17 @@ def convert_xy(x_bits, y_bits):
     return rounded(Fraction(4 * x * MICRO, n)), rounded(Fraction(6 * y * MICRO, n))
 
 
+def xyz_rule(x, y, z):
+    """u and v of tristimulus values in whole numbers; only their ratios count, so any unit will do."""
+    n = x + 15 * y + 3 * z
+    return rounded(Fraction(4 * x * MICRO, n)), rounded(Fraction(6 * y * MICRO, n))
+
+
 def convert_xyz(x_bits, y_bits, z_bits):
     x, y, z = whole_numbers((x_bits, y_bits, z_bits), TRISTIMULUS)
     if y < DARK:
         raise Refused(TOO_DARK)
-    n = x + 15 * y + 3 * z
-    return rounded(Fraction(4 * x * MICRO, n)), rounded(Fraction(6 * y * MICRO, n))
+    return xyz_rule(x, y, z)
 
 
 def convert_whole(u, v):
@@ -83,7 +90,64 @@ def convert_whole(u, v):
     return u, v
 
 
-CONVERSIONS = {"uv": convert_uv, "uvp": convert_uvp, "xy": convert_xy, "xyz": convert_xyz, "whole": convert_whole}
+# --- Spectral samples (document 02, No. 1) ----------------------------------------------------------------------------
+
+MOST_SAMPLES = 471
+SAMPLE_LIMIT = 16_777_215
+TABLE_LIMIT = 4_000_000
+SUM_BOUND = 2**32  # every sum is under it after the division
+
+
+def check_lengths(samples, tables):
+    """Refusal 9: the lengths differ, or are 0 or over 471."""
+    lengths = {len(samples), *map(len, tables)}
+    if len(lengths) > 1 or not 1 <= len(samples) <= MOST_SAMPLES:
+        raise Refused(BAD_LENGTHS)
+
+
+def check_limits(samples, tables):
+    """Refusal 10: a sample or a table's number is over its limit."""
+    if any(sample > SAMPLE_LIMIT for sample in samples) or any(number > TABLE_LIMIT for table in tables for number in table):
+        raise Refused(SAMPLE_TOO_LARGE)
+
+
+def check_lists(samples, tables):
+    """Refusal 9 over all four lists comes before refusal 10 over all four."""
+    check_lengths(samples, tables)
+    check_limits(samples, tables)
+
+
+def sum_of_products(samples, table):
+    return sum(sample * number for sample, number in zip(samples, table))
+
+
+def least_power(sums):
+    """The first of 1, 2, 4, .. that leaves every one of the sums under 2^32."""
+    return next(2**k for k in count() if all(total // 2**k < SUM_BOUND for total in sums))
+
+
+def divided(sums):
+    """All the sums by one power of two, rounding down."""
+    power = least_power(sums)
+    return [total // power for total in sums]
+
+
+def convert_sums(sums):
+    """u and v from the sums X, Y, Z; refusal 4 where the division leaves nothing of Y."""
+    x, y, z = divided(sums)
+    if y == 0:
+        raise Refused(TOO_DARK)
+    return xyz_rule(x, y, z)
+
+
+def convert_samples(samples, x_bar, y_bar, z_bar):
+    tables = x_bar, y_bar, z_bar
+    check_lists(samples, tables)
+    return convert_sums([sum_of_products(samples, table) for table in tables])
+
+
+CONVERSIONS = {"uv": convert_uv, "uvp": convert_uvp, "xy": convert_xy, "xyz": convert_xyz, "whole": convert_whole,
+               "samples": convert_samples}
 
 
 # --- The stored locus -------------------------------------------------------------------------------------------------

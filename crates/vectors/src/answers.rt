@@ -23,7 +23,7 @@ fn put_rest(answer: Answer, out: &mut [u8; 65536], at: usize) -> usize {
 }
 
 // `refusal place low high duv steps class kelvin duv`, the last two by their bits.
-fn put_answer(answer: FloatAnswer, out: &mut [u8; 65536], at: usize) -> usize {
+pub(crate) fn put_answer(answer: FloatAnswer, out: &mut [u8; 65536], at: usize) -> usize {
     let whole = answer.whole;
     let places = put_places(whole, out, at);
     let rest = put_rest(whole, out, places);
@@ -32,7 +32,7 @@ fn put_answer(answer: FloatAnswer, out: &mut [u8; 65536], at: usize) -> usize {
 }
 
 // The floats of one answer with the whole numbers of another, so that a line is right only where both entry points are.
-fn joined(whole: Answer, floats: FloatAnswer) -> FloatAnswer {
+pub(crate) fn joined(whole: Answer, floats: FloatAnswer) -> FloatAnswer {
     FloatAnswer {
         kelvin: floats.kelvin,
         duv: floats.duv,

@@ -40,7 +40,7 @@ pub(crate) fn reading_of(kind: u64, a: u32, b: u32, c: u32) -> Reading {
 }
 
 // `0 u v`, or the refusal's number alone.
-fn put_converted(converted: Converted, out: &mut [u8; 65536], at: usize) -> usize {
+pub(crate) fn put_converted(converted: Converted, out: &mut [u8; 65536], at: usize) -> usize {
     match converted {
         Converted::Point(u, v) => {
             let first = put::number(out, at, 0);

@@ -58,6 +58,17 @@ fn with_digit(value: u32, is_hex: bool, byte: u8) -> u32 {
     ((value as u64 * 10 + digit(byte)) % 4294967296) as u32
 }
 
+// A decimal number; only the last 32 bits are kept.
+pub(crate) fn decimal(text: &[u8]) -> u32 {
+    let mut value = 0;
+    let mut i = 0;
+    while i < text.len() {
+        value = with_digit(value, false, text[i]);
+        i += 1;
+    }
+    value
+}
+
 // Takes one byte: a space begins the next number, any other is a digit of the number begun last.
 fn take_byte(byte: u8, hex_fields: usize, count: usize, values: &mut [u32; 64]) -> usize
     requires { ⌜ count ≤ 64 ⌝ }

@@ -3,8 +3,17 @@ mod answers;
 mod commands;
 mod conversions;
 mod fields;
+mod lists;
 mod parts;
 mod put;
+mod samples;
+
+use lists::Lists;
+
+// The most bytes of a line that are held; a full list of numbers of ten digits takes 5,638.
+const LINE_ROOM: usize = 8192;
+
+type Line = [u8; LINE_ROOM];
 
 // How many bytes of a line are held, and how many bytes of output wait to be written.
 struct Progress {
@@ -38,9 +47,9 @@ fn with_room(out: &[u8; 65536], waiting: usize) -> usize {
     0
 }
 
-// Holds one more byte of a line; what is beyond 1024 bytes is dropped.
-fn hold(line: &mut [u8; 1024], held: usize, byte: u8) -> usize {
-    if held >= 1024 {
+// Holds one more byte of a line; what is beyond its room is dropped.
+fn hold(line: &mut Line, held: usize, byte: u8) -> usize {
+    if held >= LINE_ROOM {
         return held;
     }
     line[held] = byte;
@@ -48,15 +57,22 @@ fn hold(line: &mut [u8; 1024], held: usize, byte: u8) -> usize {
 }
 
 // Answers the line that is held.
-fn answer_held(line: [u8; 1024], held: usize, out: &mut [u8; 65536], waiting: usize) -> usize {
-    let n = io::count(as_count(held), &line);
-    commands::answer_line(&line[..n], out, waiting)
+fn answer_held(
+    line: &[u8],
+    held: usize,
+    lists: &mut Lists,
+    out: &mut [u8; 65536],
+    waiting: usize,
+) -> usize {
+    let n = io::count(as_count(held), line);
+    commands::answer_line(&line[..n], lists, out, waiting)
 }
 
 // Takes one byte of input: a newline ends the line that is held.
 fn take_byte(
     byte: u8,
-    line: &mut [u8; 1024],
+    line: &mut Line,
+    lists: &mut Lists,
     out: &mut [u8; 65536],
     progress: Progress,
 ) -> Progress {
@@ -66,7 +82,7 @@ fn take_byte(
             waiting: progress.waiting,
         };
     }
-    let longer = answer_held(*line, progress.held, out, progress.waiting);
+    let longer = answer_held(line, progress.held, lists, out, progress.waiting);
     Progress {
         held: 0,
         waiting: with_room(out, longer),
@@ -74,7 +90,7 @@ fn take_byte(
 }
 
 // Takes a block of input and writes its output; answers how many bytes of a line are then held.
-fn take_block(input: &[u8], line: &mut [u8; 1024], held: usize) -> usize {
+fn take_block(input: &[u8], line: &mut Line, held: usize, lists: &mut Lists) -> usize {
     let mut out = io::large_buffer();
     let mut progress = Progress {
         held: held,
@@ -82,7 +98,7 @@ fn take_block(input: &[u8], line: &mut [u8; 1024], held: usize) -> usize {
     };
     let mut i = 0;
     while i < input.len() {
-        progress = take_byte(input[i], line, &mut out, progress);
+        progress = take_byte(input[i], line, lists, &mut out, progress);
         i += 1;
     }
     write_out(out, progress.waiting);
@@ -90,7 +106,7 @@ fn take_block(input: &[u8], line: &mut [u8; 1024], held: usize) -> usize {
 }
 
 // Reads once.
-fn read_some(line: &mut [u8; 1024], held: usize) -> Turn {
+fn read_some(line: &mut Line, held: usize, lists: &mut Lists) -> Turn {
     let mut block = io::large_buffer();
     let got = libc::read(0, &mut block);
     if got <= 0 {
@@ -101,31 +117,32 @@ fn read_some(line: &mut [u8; 1024], held: usize) -> Turn {
     }
     let n = io::count(got, &block);
     Turn {
-        held: take_block(&block[..n], line, held),
+        held: take_block(&block[..n], line, held, lists),
         more: true,
     }
 }
 
 // Answers a last line that has no newline.
-fn finish(line: [u8; 1024], held: usize) {
+fn finish(line: Line, held: usize, lists: &mut Lists) {
     if held > 0 {
         let mut out = io::large_buffer();
-        let waiting = answer_held(line, held, &mut out, 0);
+        let waiting = answer_held(&line, held, lists, &mut out, 0);
         write_out(out, waiting);
     }
 }
 
 fn main() {
-    let mut line = [0u8; 1024];
+    let mut line = [0u8; LINE_ROOM];
+    let mut lists = lists::empty();
     let mut held = 0;
     let mut turns = u64::MAX;
     while turns > 0 {
-        let turn = read_some(&mut line, held);
+        let turn = read_some(&mut line, held, &mut lists);
         held = turn.held;
         if !turn.more {
             break;
         }
         turns -= 1;
     }
-    finish(line, held);
+    finish(line, held, &mut lists);
 }

@@ -4,10 +4,13 @@ use Rattle.vectors.proofs.main.Statement.{statement}
 use Rattle.vectors.proofs.main.Tie as tie
 
 abbrev Inv-loop : tie.InvT-loop
-Inv-loop line₀ held₀ turns₀ line held turns = Unit {0}
+Inv-loop line₀ lists₀ held₀ turns₀ line lists held turns = Unit {0}
 
 abbrev μ-loop : tie.MeasureT-loop
-μ-loop line₀ held₀ turns₀ line held turns = turns
+μ-loop line₀ lists₀ held₀ turns₀ line lists held turns = turns
+
+empty-requires : tie.Need-empty-requires Inv-loop μ-loop
+empty-requires c κs = search needs
 
 loop-holds : tie.Need-loop-holds Inv-loop μ-loop
 loop-holds c = search needs
@@ -36,6 +39,7 @@ main-spec =
     (tie.spec
     Inv-loop
     μ-loop
+    empty-requires
     loop-holds
     read-some-requires
     sub-turns
