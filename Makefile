@@ -13,7 +13,7 @@ $(LIB)/libcradlekeel.a: $(SOURCES)
 	@command -v rt >/dev/null || { echo "the library is not built, and the Rattle toolchain (the command rt) is not on the PATH"; exit 1; }
 	@echo "proving and building the library, which can take two minutes (rt staticlib cct_c) .."
 	@rt staticlib cct_c >$(LOG) 2>&1 || { tail -n 5 $(LOG); echo "rt staticlib cct_c failed; all that it said is in $(LOG)"; exit 1; }
-	@cp target/staticlib/libcct_c.a $@
+	@cp target/staticlib/libcct_c.a $@.new && mv $@.new $@
 
 $(LIB)/libcradlekeel.so: $(LIB)/libcradlekeel.a
-	@gcc -shared -o $@ -Wl,-soname,libcradlekeel.so -Wl,-z,defs -Wl,--whole-archive $< -Wl,--no-whole-archive
+	@gcc -shared -o $@.new -Wl,-soname,libcradlekeel.so -Wl,-z,defs -Wl,--whole-archive $< -Wl,--no-whole-archive && mv $@.new $@

@@ -21,6 +21,4 @@ try:
 except cradlekeel.Refusal as refusal:
     print(refusal)
     sys.exit(1)
-low, high = a.kelvin_range
-print(f"{a.kelvin:.1f} K, Duv {a.duv:+.6f}, range {low:.1f} to {high:.1f} K,", end=" ")
-print("no class" if a.class_index is None else f"class {a.class_index}")
+print(a)  # in words; a.kelvin, a.duv, a.kelvin_range and a.class_index are its parts

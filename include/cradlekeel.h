@@ -12,11 +12,12 @@
  * Promised of every function, for every value of its arguments, and proved of the code that the library is compiled from
  * (crates/cct_c and the crates below it):
  *   - it returns, and what it returns is the answer that the definitions in crates/cct/specs give;
- *   - it writes nothing through `edges`.
+ *   - it writes nothing through `edges`, nor through any other pointer that it takes.
  * The functions keep nothing between calls and allocate nothing, so threads may call them at the same time.
  *
  * Owed by the caller of every function: `edges` points to `edge_count` numbers of 32 bits that can be read and that no
- * other thread writes during the call. With an `edge_count` of 0 nothing is read and `edges` may be NULL.
+ * other thread writes during the call. With an `edge_count` of 0 nothing is read and `edges` may be NULL. The same is owed of
+ * each other pointer with its count; the lists may overlap or be one.
  */
 #ifndef CRADLEKEEL_H
 #define CRADLEKEEL_H
@@ -28,18 +29,21 @@
 extern "C" {
 #endif
 
-/* Why there is no answer: the value of `refusal`. They are tested in this order, each over the whole reading, and the first
- * that applies is given. None depends on `max_steps`. */
+/* Why there is no answer: the value of `refusal`. They are tested in the order of this list, each over the whole reading, and
+ * the first that applies is given. None depends on `max_steps`. */
 enum {
     CK_ACCEPTED = 0,
-    CK_BAD_EDGES = 1,    /* fewer than 2 edges or more than 32, or not strictly rising, or one not in 1600 .. 20001 K */
-    CK_NOT_FINITE = 2,   /* a float of the reading is infinite or not a number */
-    CK_OUT_OF_RANGE = 3, /* a coordinate not in 0 <= x < 1, a tristimulus value not in 0 <= X < 4096, or a u or v in
-                            millionths over 4,000,000 */
-    CK_TOO_DARK = 4,     /* tristimulus values only: Y, rounded to 0.00001, is under 1 */
-    CK_TOO_FAR = 5,      /* more than 0.030 in (u, v) from each of the 24 stored points of the blackbody locus */
-    CK_TOO_HOT = 6,      /* beyond the locus's 20,000 K end */
-    CK_TOO_COOL = 7      /* beyond the locus's 1600 K end */
+    CK_BAD_EDGES = 1,         /* fewer than 2 edges or more than 32, or not strictly rising, or one not in 1600 .. 20001 K */
+    CK_BAD_LENGTHS = 9,       /* spectral samples only: their four counts are not all equal, or are 0 or over 471 */
+    CK_SAMPLE_TOO_LARGE = 10, /* spectral samples only: a sample over 16,777,215, or a number of a table over 4,000,000 */
+    CK_NOT_FINITE = 2,        /* a float of the reading is infinite or not a number */
+    CK_OUT_OF_RANGE = 3,      /* a coordinate not in 0 <= x < 1, a tristimulus value not in 0 <= X < 4096, or a u or v in
+                                 millionths over 4,000,000 */
+    CK_TOO_DARK = 4,          /* tristimulus values: Y, rounded to 0.00001, is under 1; spectral samples: Y is 0 once X, Y and
+                                 Z are divided as ck_read_samples says */
+    CK_TOO_FAR = 5,           /* more than 0.030 in (u, v) from each of the 24 stored points of the blackbody locus */
+    CK_TOO_HOT = 6,           /* beyond the locus's 20,000 K end */
+    CK_TOO_COOL = 7           /* beyond the locus's 1600 K end */
 };
 
 /* The value of `class_index` where no class is named. */
@@ -84,12 +88,23 @@ ck_answer ck_read_uvp(float u_prime, float v_prime, const uint32_t *edges, size_
 ck_answer ck_read_xy(float x, float y, const uint32_t *edges, size_t edge_count, uint32_t max_steps);
 
 /* Tristimulus values, each 0 <= X < 4096; answered at u = 4X / (X + 15Y + 3Z), v = 6Y / (X + 15Y + 3Z).
- * Refusals: all seven. */
+ * Refusals: CK_BAD_EDGES, CK_NOT_FINITE, CK_OUT_OF_RANGE, CK_TOO_DARK, CK_TOO_FAR, CK_TOO_HOT, CK_TOO_COOL. */
 ck_answer ck_read_xyz(float X, float Y, float Z, const uint32_t *edges, size_t edge_count, uint32_t max_steps);
 
 /* CIE 1960 u, v as whole numbers of millionths, each 0 to 4,000,000.
  * Refusals: CK_BAD_EDGES, CK_OUT_OF_RANGE, CK_TOO_FAR, CK_TOO_HOT, CK_TOO_COOL. */
 ck_answer ck_read_micro(uint32_t u, uint32_t v, const uint32_t *edges, size_t edge_count, uint32_t max_steps);
+
+/* Spectral samples, each 0 to 16,777,215, with the three colour-matching functions at the same wavelengths in whole millionths,
+ * each 0 to 4,000,000; 1 to 471 numbers in each of the four lists. data/ has CIE's tables of 1931. X, Y and Z are the sums of
+ * sample times table number, so the wavelengths should be equally far apart; a meter's values are best multiplied so that the
+ * largest is 16,777,215, as in examples/samples.c. All three are divided, rounding down, by the least
+ * power of two (1 included) that leaves the largest under 2^32; answered at u = 4X / (X + 15Y + 3Z), v = 6Y / (X + 15Y + 3Z).
+ * Refusals, in this order: CK_BAD_EDGES, CK_BAD_LENGTHS (of all four counts, before any number is looked at),
+ * CK_SAMPLE_TOO_LARGE, CK_TOO_DARK, CK_TOO_FAR, CK_TOO_HOT, CK_TOO_COOL. */
+ck_answer ck_read_samples(const uint32_t *samples, size_t sample_count, const uint32_t *x_bar, size_t x_count,
+                          const uint32_t *y_bar, size_t y_count, const uint32_t *z_bar, size_t z_count, const uint32_t *edges,
+                          size_t edge_count, uint32_t max_steps);
 
 #ifdef __cplusplus
 }

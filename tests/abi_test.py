@@ -1,9 +1,11 @@
-"""Runs the answer vectors of tests/make_vectors.py through python/cradlekeel.py, that module's own examples, and examples/.
+"""Runs the answer vectors of tests/make_vectors.py through python/cradlekeel, that package's own examples, and examples/.
 
-    python3 tests/abi_test.py               (tests/run-abi calls it, with examples/lamp.c compiled to target/abi/lamp)
-    python3 tests/abi_test.py --self-test   without the library: its absence is said, what is expected of the lamps, what the documents show
+    python3 tests/abi_test.py               (tests/run-abi calls it, with the programs of examples/ compiled to target/abi/)
+    python3 tests/abi_test.py --self-test   what needs no library: that its absence is said, how spectra are scaled, what is
+                                            expected of the lamps, and what the documents show of examples/
 """
 
+import _ctypes
 import doctest
 import os
 import re
@@ -13,7 +15,9 @@ import struct
 import subprocess
 import sys
 import tempfile
+from collections import Counter
 from ctypes import c_float
+from math import expm1
 from pathlib import Path
 
 sys.dont_write_bytecode = True
@@ -21,27 +25,32 @@ ROOT = Path(__file__).resolve().parent.parent
 sys.path.insert(0, str(ROOT / "python"))
 
 import cradlekeel
+import cradlekeel._library
 import readme_commands
 import reference
+import spectrum_test
+import vectors
+from worded import spectrum_answer, table, worded
 
 READERS = {"uv": (cradlekeel.read_uv, "ck_read_uv"), "uvp": (cradlekeel.read_uv_prime, "ck_read_uvp"),
            "xy": (cradlekeel.read_xy, "ck_read_xy"), "xyz": (cradlekeel.read_xyz, "ck_read_xyz"),
-           "whole": (cradlekeel.read_micro, "ck_read_micro")}
+           "whole": (cradlekeel.read_micro, "ck_read_micro"), "samples": (cradlekeel.read_samples, "ck_read_samples")}
+WHOLE_NUMBERS = ("whole", "samples")
 
 
-def parsed(line):
-    """kind, numbers (floats by their bits), steps and edges of a line `answer KIND NUMBERS.. STEPS EDGES..`."""
+def parsed(line, held):
+    """kind, numbers (floats by their bits; of samples the four lists held), steps and edges of `answer KIND NUMBERS.. STEPS EDGES..`."""
     _, kind, *fields = line.split()
-    count = 3 if kind == "xyz" else 2
+    count = {"xyz": 3, "samples": 0}.get(kind, 2)
     numbers = [int(field, 10 if kind == "whole" else 16) for field in fields[:count]]
     steps, *edges = map(int, fields[count:])
-    return kind, numbers, steps, edges
+    return kind, list(map(list, held)) if kind == "samples" else numbers, steps, edges
 
 
 def c_answer(kind, numbers, steps, edges):
     """What the C function answers, written as tests/answer_cases.py writes it; a float goes over bit by bit."""
-    given = numbers if kind == "whole" else [c_float.from_buffer_copy(struct.pack("<I", bits)) for bits in numbers]
-    found = cradlekeel._call(READERS[kind][1], given, edges, steps)
+    given = numbers if kind in WHOLE_NUMBERS else [c_float.from_buffer_copy(struct.pack("<I", bits)) for bits in numbers]
+    found = cradlekeel._library.call(READERS[kind][1], given, edges, steps)
     w = found.whole
     bits = struct.unpack("<QQ", struct.pack("<dd", found.kelvin, found.duv))
     return "%d %d %d %d %d %d %d %016x %016x" % (w.refusal, w.place, w.low, w.high, w.duv, w.steps, w.class_index, *bits)
@@ -49,7 +58,7 @@ def c_answer(kind, numbers, steps, edges):
 
 def python_answer(kind, numbers, steps, edges):
     """The same through the module's public function, with the Answer or the Refusal put back into that form."""
-    given = numbers if kind == "whole" else [struct.unpack("<f", struct.pack("<I", bits))[0] for bits in numbers]
+    given = numbers if kind in WHOLE_NUMBERS else [struct.unpack("<f", struct.pack("<I", bits))[0] for bits in numbers]
     try:
         a = READERS[kind][0](*given, edges=edges, steps=steps)
     except cradlekeel.Refusal as refusal:
@@ -61,19 +70,24 @@ def python_answer(kind, numbers, steps, edges):
     return "0 %d %d %d %d %d %d %016x %016x" % (a.place, a.low, a.high, round(a.duv * 1e6), a.steps, class_index, *bits)
 
 
+def check_vector(call, expected):
+    for run in (c_answer, python_answer):
+        found = run(*call)
+        assert found == expected, f"{run.__name__}: {call}\nexpected {expected}\nfound    {found}"
+
+
 def run_vectors():
     calls = (ROOT / "crates/vectors/stdin").read_text().splitlines()
     answers = (ROOT / "crates/vectors/stdout").read_text().splitlines()
     assert len(calls) == len(answers), "the vectors' input and output have different numbers of lines"
-    count = 0
-    for line, expected in zip(calls, answers):
+    counts = Counter()
+    for (line, held), expected in zip(vectors.with_held(calls), answers):
         if line.startswith("answer "):
-            for run in (c_answer, python_answer):
-                found = run(*parsed(line))
-                assert found == expected, f"{run.__name__}: {line}\nexpected {expected}\nfound    {found}"
-            count += 1
-    assert count > 0, "the vectors have no answer lines"
-    return count
+            call = parsed(line, held)
+            check_vector(call, expected)
+            counts[call[0]] += 1
+    assert counts.keys() == READERS.keys(), f"the vectors have answer lines of {list(counts)} only"
+    return counts.total()
 
 
 def check_whole_numbers():
@@ -91,43 +105,66 @@ def check_whole_numbers():
             raise AssertionError("taken")
 
 
+def run_python(words, library, path=ROOT / "python"):
+    """A run of Python with the package on its path and the variable that names the library set or not."""
+    variables = {name: value for name, value in os.environ.items() if name != "CRADLEKEEL_LIBRARY"}
+    variables |= {"PYTHONPATH": str(path)} | ({"CRADLEKEEL_LIBRARY": library} if library else {})
+    return subprocess.run([sys.executable, "-B", *words], env=variables, capture_output=True, text=True)
+
+
 def check_missing_library():
-    """Without a library, the message says what to run, or which file the variable names; the first in a folder with a space."""
+    """Without a library, or with another, the message says what to run or which file the variable names; in a folder with a space."""
     call = "import cradlekeel; cradlekeel.read_xy(0.3127, 0.3290)"
     with tempfile.TemporaryDirectory(prefix="no library ") as folder:
-        copy = Path(folder).resolve() / "python"
-        copy.mkdir()
-        shutil.copy(ROOT / "python" / "cradlekeel.py", copy)
-        absent = str(copy / "absent.so")
-        for named, words in ((None, f"make -C {shlex.quote(str(copy.parent))} lib"), (absent, f"CRADLEKEEL_LIBRARY names {absent}")):
-            variables = {name: value for name, value in os.environ.items() if name != "CRADLEKEEL_LIBRARY"}
-            variables |= {"PYTHONPATH": str(copy)} | ({"CRADLEKEEL_LIBRARY": named} if named else {})
-            ran = subprocess.run([sys.executable, "-c", call], env=variables, capture_output=True, text=True)
-            assert ran.returncode == 1 and "LibraryMissing" in ran.stderr and words in ran.stderr, ran.stderr
+        root = Path(folder).resolve()
+        for part in ("python", "data"):
+            shutil.copytree(ROOT / part, root / part, ignore=shutil.ignore_patterns("__pycache__"))
+        make, absent, other = f"make -C {shlex.quote(str(root))} lib", str(root / "absent.so"), _ctypes.__file__
+        for named, words in ((None, make), (absent, f"CRADLEKEEL_LIBRARY names {absent}"), (other, "has no function ck_read_")):
+            ran = run_python(["-c", call], named, root / "python")
+            assert ran.returncode == 1 and "cradlekeel.LibraryMissing" in ran.stderr and words in ran.stderr, ran.stderr
+            ran = run_python(["-m", "cradlekeel", "spectrum", str(ROOT / "examples/incandescent.csv")], named, root / "python")
+            assert (ran.returncode, ran.stdout, ran.stderr.count("\n")) == (2, "", 1) and words in ran.stderr, ran
 
 
+LAMP_EXAMPLES = ("examples/lamp.c", "examples/lamp.py")
 # x and y of lamps with a class, without one, and with each refusal that x and y can meet.
 LAMPS = ("0.3127 0.3290", "0.4476 0.4074", "0.3451 0.3515", "nan 0.3", "0.3 1", "0.23 0.2825", "0.23 0.23", "0.5065 0.3231")
 NO_LAMPS = ("", "0.3127", "0,3127 0,3290", "x y", "0.3127 0.3290 5000")
+BLACKBODIES = ("1500", "1650.5", "2856", "19000", "1e5")
+NO_BLACKBODIES = ("", "0", "-1", "nan", "inf", "2856K", "2856 6500")
 
 
 def lamp_line(lamp):
     """What an example prints by the second program, up to a refusal's words, and its exit status."""
     bits = [struct.unpack("<I", struct.pack("<f", float(number)))[0] for number in lamp.split()]
     given = reference.answer("xy", bits, cradlekeel.EDGES, cradlekeel.STEPS)
-    if given.refusal:
-        return f"refusal {given.refusal}: ", 1
-    kelvin, low, high = (float(reference.kelvin_at(place)) for place in (given.place, given.p, given.o))
-    shown = "no class" if given.cls == reference.NO_CLASS else f"class {given.cls}"
-    return f"{kelvin:.1f} K, Duv {given.duv / reference.MICRO:+.6f}, range {low:.1f} to {high:.1f} K, {shown}\n", 0
+    return (worded(given), 1) if given.refusal else (worded(given) + "\n", 0)
 
 
-def check_examples():
+def blackbody_line(kelvin):
+    """What examples/samples.c prints by the second program, and its exit status."""
+    power = [nm**-5.0 / expm1(1.4388e7 / (nm * float(kelvin))) for nm in table()]
+    given = spectrum_answer(table(), power)
+    return (f"refusal {given.refusal}; include/cradlekeel.h says why\n", 1) if given.refusal else (",".join(worded(given).split(",")[:2]) + "\n", 0)
+
+
+def check_blackbodies():
+    command = ROOT / "target/abi/samples"
+    for kelvin in BLACKBODIES:
+        ran = subprocess.run([command, kelvin], capture_output=True, text=True, cwd=ROOT)
+        assert (ran.stdout, ran.returncode) == blackbody_line(kelvin) and not ran.stderr, f"{kelvin}: {ran}"
+    for words in NO_BLACKBODIES:
+        ran = subprocess.run([command, *words.split()], capture_output=True, text=True, cwd=ROOT)
+        assert ran.returncode == 2 and ran.stderr.startswith("usage: samples") and not ran.stdout, f"{words}: {ran}"
+
+
+def check_lamps():
     for command in ([ROOT / "target/abi/lamp"], [sys.executable, ROOT / "examples/lamp.py"]):
         for lamp in LAMPS:
             expected, status = lamp_line(lamp)
             ran = subprocess.run([*command, *lamp.split()], capture_output=True, text=True)
-            assert ran.stdout.startswith(expected) and ran.stdout.count("\n") == 1, f"{lamp}: expected {expected}found {ran}"
+            assert ran.stdout.startswith(expected) and ran.stdout.count("\n") == 1, f"{lamp}: expected {expected}, found {ran}"
             assert ran.returncode == status and not ran.stderr, f"{lamp}: {ran}"
         for words in NO_LAMPS:
             ran = subprocess.run([*command, *words.split()], capture_output=True, text=True)
@@ -149,7 +186,7 @@ def check_documents():
     check_shown("include/cradlekeel.h", [line[3:] for line in header if line.startswith(" *     ")], "examples/lamp.c")
     blocks = re.findall(r"<!-- (examples/\S+) -->\s*```\w+\n(.*?)```", (ROOT / "README.md").read_text(), re.DOTALL)
     named = sorted(example for example, _ in blocks)
-    assert named == ["examples/lamp.c", "examples/lamp.py"], f"README.md has blocks of {named}"
+    assert len(set(named)) == len(named) and set(LAMP_EXAMPLES) <= set(named), f"README.md has blocks of {named}"
     for example, block in blocks:
         check_shown("README.md", block.splitlines(), example)
     return len(blocks)
@@ -158,10 +195,17 @@ def check_documents():
 def self_test():
     """What needs no library, so that a fault in it shows before anything is proved."""
     check_missing_library()
-    statuses = {lamp_line(lamp)[1] for lamp in LAMPS}
-    assert statuses == {0, 1}, "the lamps should have both answers and refusals"
-    blocks, commands = check_documents(), readme_commands.self_test()
-    print(f"abi_test.py: {len(LAMPS)} lamps computed; {blocks} blocks and {commands} commands of README.md read")
+    for statuses in ({lamp_line(lamp)[1] for lamp in LAMPS}, {blackbody_line(kelvin)[1] for kelvin in BLACKBODIES}):
+        assert statuses == {0, 1}, "the lamps, and the blackbodies, should have both answers and refusals"
+    scaled, blocks, commands = spectrum_test.self_test(), check_documents(), readme_commands.self_test()
+    print(f"abi_test.py: {len(LAMPS)} lamps and {len(BLACKBODIES)} blackbodies computed, {scaled} spectra scaled; {blocks} blocks and "
+          f"{commands} commands of README.md read")
+
+
+def run_doctests():
+    """The failures among the examples of the package's own documentation, and how many examples there are."""
+    ran = [doctest.testmod(module) for module in (cradlekeel, cradlekeel.readings, cradlekeel.spectra)]
+    return sum(each.failed for each in ran), sum(each.attempted for each in ran)
 
 
 def main():
@@ -171,12 +215,15 @@ def main():
         sys.exit(__doc__)
     count = run_vectors()
     check_whole_numbers()
-    check_examples()
+    spectra = spectrum_test.run()
+    check_lamps()
+    check_blackbodies()
     blocks, commands = check_documents(), readme_commands.run(with_library=True)
-    examples = doctest.testmod(cradlekeel)
-    print(f"abi_test.py: {count} vectors, each by the C function and by the Python one; {examples.attempted} examples, "
-          f"{examples.failed} failures; {len(LAMPS)} lamps by each of examples/; {blocks} blocks and {commands} commands of README.md")
-    sys.exit(examples.failed != 0)
+    failed, attempted = run_doctests()
+    print(f"abi_test.py: {count} vectors, each by the C function and by the Python one; {spectra} spectra; {attempted} examples, "
+          f"{failed} failures; {len(LAMPS)} lamps by each of two programs and {len(BLACKBODIES)} blackbodies; {blocks} blocks and "
+          f"{commands} commands of README.md")
+    sys.exit(failed != 0)
 
 
 if __name__ == "__main__":

@@ -12,7 +12,7 @@ from typing import NamedTuple
 ROOT = Path(__file__).resolve().parent.parent
 FENCE = re.compile(r"^ *```.*?^ *```[^\n]*$", re.MULTILINE | re.DOTALL)
 INDENT, PROMPT = "    ", "$ "
-NEEDS_LIBRARY = re.compile(r"\b(?:gcc|g\+\+|python3|target/lib|target/lamp)(?![\w-])")
+NEEDS_LIBRARY = re.compile(r"\b(?:gcc|g\+\+|python3|target/lib|target/lamp|target/samples|cradlekeel spectrum)(?![\w-])")
 LEFT_OUT = ("make lib", ".ci/run")  # tests/run-abi and the gate run these themselves
 FEWEST = 3
 PATIENCE = 120  # seconds that one command may take
@@ -113,14 +113,15 @@ A sentence with `$ false`, and a block.
     $ echo in a fence
 ```
     $ gcc --version && target/lamp
+    $ bin/cradlekeel spectrum lamp.csv
 """
 
 
 def self_test():
     """The sample is read as it should be, and a wrong output, a wrong status and a command without an end are found."""
     found = commands(SAMPLE)
-    assert [len(command.shown) for command in found] == [2, 0, 3, 0], found
-    assert [command.needs_library for command in found] == [False, False, False, True], found
+    assert [len(command.shown) for command in found] == [2, 0, 3, 0, 0], found
+    assert [command.needs_library for command in found] == [False, False, False, True, True], found
     assert [fault(command) for command in found[:3]] == [None, None, None], found
     assert fault(found[0]._replace(shown=("c",))) and fault(found[2]._replace(text="echo d"))
     assert fault(Command("false", ()))

@@ -1,9 +1,9 @@
-/* Runs the answer vectors of tests/make_vectors.py through the five C functions, and the cases that only C can make.
+/* Runs the answer vectors of tests/make_vectors.py through the six C functions, and the cases that only C can make.
  *
  *     abi_test crates/vectors/stdin crates/vectors/stdout
  *
- * The edges stand at the end of a page that cannot be written, before one that cannot be read, so that a write to them, or a
- * read past their end, ends the test. Compiles as C11 and as C++11. */
+ * Each list stands at the end of a page of its own that cannot be written, before one that cannot be read, so that a write to
+ * it, or a read past its end, ends the test. Compiles as C11 and as C++11. */
 #define _GNU_SOURCE 1
 #include "../../include/cradlekeel.h"
 
@@ -25,7 +25,8 @@ SAME_LAYOUT(offsetof(ck_answer, whole) == 16);
 SAME_LAYOUT(offsetof(ck_whole, duv) == 12);
 SAME_LAYOUT(offsetof(ck_whole, class_index) == 18);
 
-enum { MOST_EDGES = 64, LONGEST_LINE = 4096 };
+enum { SAMPLES, X_BAR, Y_BAR, Z_BAR, EDGES, LISTS };
+enum { MOST_NUMBERS = 1024, LONGEST_LINE = 8194 };
 
 static long failures;
 
@@ -33,25 +34,37 @@ static void fail(const char *what, const char *line) {
     if (failures++ < 10) fprintf(stderr, "FAILED: %s: %s\n", what, line);
 }
 
-/* --- Edges that can be read and nothing else ----------------------------------------------------------------------- */
+/* --- Lists that can be read and nothing else ----------------------------------------------------------------------- */
 
-static char *pages;
+typedef struct list {
+    const uint32_t *numbers;
+    size_t count;
+} list;
+
+static char *pages; /* two for each list: its own and one that cannot be read */
 static size_t page_size;
 
 static void make_pages(void) {
     page_size = (size_t)sysconf(_SC_PAGESIZE);
-    void *made = mmap(NULL, 2 * page_size, PROT_NONE, MAP_PRIVATE | MAP_ANONYMOUS, -1, 0);
-    if (made == MAP_FAILED) exit(2);
+    void *made = mmap(NULL, 2 * LISTS * page_size, PROT_NONE, MAP_PRIVATE | MAP_ANONYMOUS, -1, 0);
+    if (made == MAP_FAILED || page_size < MOST_NUMBERS * sizeof(uint32_t)) exit(2);
     pages = (char *)made;
 }
 
-/* The edges, copied so that the last one ends where nothing can be read. */
-static const uint32_t *lend(const uint32_t *edges, size_t count) {
-    char *at = pages + page_size - count * sizeof *edges;
-    if (mprotect(pages, page_size, PROT_READ | PROT_WRITE) != 0) exit(2);
-    memcpy(at, edges, count * sizeof *edges);
-    if (mprotect(pages, page_size, PROT_READ) != 0) exit(2);
-    return (const uint32_t *)(const void *)at;
+/* The numbers, copied so that the last one ends where nothing can be read. */
+static list lend(int which, const uint32_t *numbers, size_t count) {
+    char *page = pages + 2 * (size_t)which * page_size, *at = page + page_size - count * sizeof *numbers;
+    if (mprotect(page, page_size, PROT_READ | PROT_WRITE) != 0) exit(2);
+    memcpy(at, numbers, count * sizeof *numbers);
+    if (mprotect(page, page_size, PROT_READ) != 0) exit(2);
+    list copied = {(const uint32_t *)(const void *)at, count};
+    return copied;
+}
+
+static ck_answer read_samples(const list lists[LISTS], uint32_t max_steps) {
+    const list *s = &lists[SAMPLES], *x = &lists[X_BAR], *y = &lists[Y_BAR], *z = &lists[Z_BAR], *e = &lists[EDGES];
+    return ck_read_samples(s->numbers, s->count, x->numbers, x->count, y->numbers, y->count, z->numbers, z->count, e->numbers, e->count,
+                           max_steps);
 }
 
 /* --- The vectors --------------------------------------------------------------------------------------------------- */
@@ -72,37 +85,65 @@ typedef struct call {
     char kind[8];
     uint32_t numbers[3]; /* floats by their bits */
     uint32_t max_steps;
-    uint32_t edges[MOST_EDGES];
-    size_t edge_count;
+    list lists[LISTS]; /* those of a reading are held from line to line */
 } call;
 
-/* `answer KIND NUMBERS.. MAX_STEPS EDGES..`: 1 where the line is one. */
-static int read_call(char *line, call *made) {
-    char *word = strtok(line, " \n");
-    if (!word || strcmp(word, "answer") != 0) return 0;
-    word = strtok(NULL, " \n");
-    snprintf(made->kind, sizeof made->kind, "%s", word ? word : "");
-    int base = strcmp(made->kind, "whole") == 0 ? 10 : 16, count = strcmp(made->kind, "xyz") == 0 ? 3 : 2;
-    for (int i = 0; i < count; i++) {
-        word = strtok(NULL, " \n");
-        made->numbers[i] = (uint32_t)strtoul(word ? word : "", NULL, base);
-    }
-    word = strtok(NULL, " \n");
-    made->max_steps = (uint32_t)strtoul(word ? word : "", NULL, 10);
-    made->edge_count = 0;
-    while ((word = strtok(NULL, " \n")) && made->edge_count < MOST_EDGES)
-        made->edges[made->edge_count++] = (uint32_t)strtoul(word, NULL, 10);
-    return 1;
+static uint32_t next_number(int base) {
+    const char *word = strtok(NULL, " \n");
+    return (uint32_t)strtoul(word ? word : "", NULL, base);
 }
 
-static ck_answer run(const call *c, const uint32_t *edges) {
-    const uint32_t *n = c->numbers;
+/* Adds the numbers of a word, `N` or `NxK` for K times N, and gives how many there are now. */
+static size_t add_numbers(uint32_t *numbers, size_t count, const char *word) {
+    char *end;
+    uint32_t number = (uint32_t)strtoul(word, &end, 10);
+    size_t times = *end == 'x' ? strtoul(end + 1, NULL, 10) : 1;
+    for (size_t i = 0; i < times && count < MOST_NUMBERS; i++) numbers[count++] = number;
+    return count;
+}
+
+/* The numbers up to the end of the line. */
+static list next_list(int which) {
+    static uint32_t numbers[MOST_NUMBERS];
+    size_t count = 0;
+    for (const char *word; (word = strtok(NULL, " \n"));) count = add_numbers(numbers, count, word);
+    return lend(which, numbers, count);
+}
+
+/* `list s|x|y|z NUMBERS..`, the words after the first: the list is replaced, and its length is the answer expected. */
+static void hold_list(call *made, const char *expected, const char *line) {
+    static const char names[] = "sxyz";
+    const char *name = strtok(NULL, " \n"), *found = name ? strchr(names, *name) : NULL;
+    if (!found) {
+        fail("no such list", line);
+        return;
+    }
+    int which = (int)(found - names);
+    made->lists[which] = next_list(which);
+    if (made->lists[which].count != strtoul(expected, NULL, 10)) fail("another number of numbers", line);
+}
+
+/* `answer KIND NUMBERS.. MAX_STEPS EDGES..`, the words after the first. */
+static void read_call(call *made) {
+    const char *kind = strtok(NULL, " \n");
+    snprintf(made->kind, sizeof made->kind, "%s", kind ? kind : "");
+    int base = strcmp(made->kind, "whole") == 0 ? 10 : 16;
+    int count = strcmp(made->kind, "samples") == 0 ? 0 : strcmp(made->kind, "xyz") == 0 ? 3 : 2;
+    for (int i = 0; i < count; i++) made->numbers[i] = next_number(base);
+    made->max_steps = next_number(10);
+    made->lists[EDGES] = next_list(EDGES);
+}
+
+static ck_answer run(const call *c) {
+    const uint32_t *n = c->numbers, *edges = c->lists[EDGES].numbers;
+    size_t edge_count = c->lists[EDGES].count;
     float x = float_of(n[0]), y = float_of(n[1]), z = float_of(n[2]);
-    if (strcmp(c->kind, "uv") == 0) return ck_read_uv(x, y, edges, c->edge_count, c->max_steps);
-    if (strcmp(c->kind, "uvp") == 0) return ck_read_uvp(x, y, edges, c->edge_count, c->max_steps);
-    if (strcmp(c->kind, "xy") == 0) return ck_read_xy(x, y, edges, c->edge_count, c->max_steps);
-    if (strcmp(c->kind, "xyz") == 0) return ck_read_xyz(x, y, z, edges, c->edge_count, c->max_steps);
-    if (strcmp(c->kind, "whole") == 0) return ck_read_micro(n[0], n[1], edges, c->edge_count, c->max_steps);
+    if (strcmp(c->kind, "uv") == 0) return ck_read_uv(x, y, edges, edge_count, c->max_steps);
+    if (strcmp(c->kind, "uvp") == 0) return ck_read_uvp(x, y, edges, edge_count, c->max_steps);
+    if (strcmp(c->kind, "xy") == 0) return ck_read_xy(x, y, edges, edge_count, c->max_steps);
+    if (strcmp(c->kind, "xyz") == 0) return ck_read_xyz(x, y, z, edges, edge_count, c->max_steps);
+    if (strcmp(c->kind, "whole") == 0) return ck_read_micro(n[0], n[1], edges, edge_count, c->max_steps);
+    if (strcmp(c->kind, "samples") == 0) return read_samples(c->lists, c->max_steps);
     fprintf(stderr, "no such kind: %s\n", c->kind);
     exit(2);
 }
@@ -125,8 +166,11 @@ static long run_vectors(const char *calls_path, const char *answers_path) {
     }
     while (fgets(line, sizeof line, calls) && fgets(expected, sizeof expected, answers)) {
         memcpy(kept, line, sizeof kept);
-        if (!read_call(line, &c)) continue;
-        show(shown, sizeof shown, run(&c, lend(c.edges, c.edge_count)));
+        const char *word = strtok(line, " \n");
+        if (word && strcmp(word, "list") == 0) hold_list(&c, expected, kept);
+        if (!word || strcmp(word, "answer") != 0) continue;
+        read_call(&c);
+        show(shown, sizeof shown, run(&c));
         if (strcmp(shown, expected) != 0) fail(shown, kept);
         count++;
     }
@@ -153,13 +197,14 @@ static void no_edges_at_all(void) {
     expect_refused(ck_read_xy(0.3f, 0.3f, NULL, 0, 14), CK_BAD_EDGES, "xy, NULL and no edges");
     expect_refused(ck_read_xyz(95.f, 100.f, 109.f, NULL, 0, 14), CK_BAD_EDGES, "xyz, NULL and no edges");
     expect_refused(ck_read_micro(255910, 349510, NULL, 0, 14), CK_BAD_EDGES, "micro, NULL and no edges");
+    expect_refused(ck_read_samples(NULL, 0, NULL, 0, NULL, 0, NULL, 0, NULL, 0, 14), CK_BAD_EDGES, "samples, NULL and no edges");
 }
 
 /* Signalling and quiet NaNs of both signs with payloads, and the infinities, at each position of each function. */
 static void not_finite(void) {
     static const uint32_t patterns[] = {0x7f800001, 0x7f812345, 0x7fbfffff, 0x7fc00000, 0x7fc0beef, 0x7fffffff,
                                         0xff800001, 0xffbfffff, 0xffc00000, 0xffffffff, 0x7f800000, 0xff800000};
-    const uint32_t *edges = lend(GOOD_EDGES, GOOD_COUNT);
+    const uint32_t *edges = lend(EDGES, GOOD_EDGES, GOOD_COUNT).numbers;
     for (size_t i = 0; i < sizeof patterns / sizeof *patterns; i++) {
         float bad = float_of(patterns[i]);
         expect_refused(ck_read_uv(bad, 0.35f, edges, GOOD_COUNT, 14), CK_NOT_FINITE, "uv, u not finite");
@@ -175,9 +220,83 @@ static void not_finite(void) {
     }
 }
 
+/* One number over and over. */
+static list lend_equal(int which, size_t count, uint32_t number) {
+    static uint32_t numbers[MOST_NUMBERS];
+    for (size_t i = 0; i < count; i++) numbers[i] = number;
+    return lend(which, numbers, count);
+}
+
+/* Equal samples and equal numbers in the three tables, with good edges. */
+static void lend_all(list lists[LISTS], size_t count, uint32_t sample, uint32_t table) {
+    lists[SAMPLES] = lend_equal(SAMPLES, count, sample);
+    lists[X_BAR] = lend_equal(X_BAR, count, table);
+    lists[Y_BAR] = lend_equal(Y_BAR, count, table);
+    lists[Z_BAR] = lend_equal(Z_BAR, count, table);
+    lists[EDGES] = lend(EDGES, GOOD_EDGES, GOOD_COUNT);
+}
+
+/* X = Y = Z is u 210526, v 315789 in document 01. */
+static void expect_equal_energy(const list lists[LISTS], const char *what) {
+    char shown[LONGEST_LINE], expected[LONGEST_LINE];
+    show(shown, sizeof shown, read_samples(lists, 14));
+    show(expected, sizeof expected, ck_read_micro(210526, 315789, GOOD_EDGES, GOOD_COUNT, 14));
+    if (strcmp(shown, expected) != 0) fail(what, shown);
+}
+
+enum { MOST_SAMPLES = 471, LARGEST_SAMPLE = 16777215, LARGEST_TABLE = 4000000 };
+
+/* NULL with a count of 0 in each place, alone and in all four. */
+static void samples_without_a_list(void) {
+    list lists[LISTS] = {{NULL, 0}, {NULL, 0}, {NULL, 0}, {NULL, 0}, lend(EDGES, GOOD_EDGES, GOOD_COUNT)};
+    expect_refused(read_samples(lists, 14), CK_BAD_LENGTHS, "samples, NULL for all four lists");
+    for (int which = SAMPLES; which <= EDGES; which++) {
+        lend_all(lists, 3, 1, 1);
+        lists[which].numbers = NULL;
+        lists[which].count = 0;
+        expect_refused(read_samples(lists, 14), which == EDGES ? CK_BAD_EDGES : CK_BAD_LENGTHS, "samples, NULL for one list");
+    }
+}
+
+/* Lists up to a whole page: 471 numbers are taken and more are not, whatever they are. */
+static void samples_beyond_the_most(void) {
+    list lists[LISTS];
+    lend_all(lists, MOST_SAMPLES, 1, 1);
+    expect_equal_energy(lists, "471 samples");
+    for (size_t count = MOST_SAMPLES + 1; count <= MOST_NUMBERS; count++) {
+        lend_all(lists, count, count % 2 ? 1 : UINT32_MAX, 1);
+        expect_refused(read_samples(lists, 14), CK_BAD_LENGTHS, "over 471 samples");
+    }
+}
+
+/* The largest numbers are taken; one more at the end of any list is not, nor the largest of 32 bits. */
+static void samples_at_their_limits(void) {
+    static uint32_t numbers[MOST_SAMPLES];
+    list lists[LISTS];
+    lend_all(lists, MOST_SAMPLES, LARGEST_SAMPLE, LARGEST_TABLE);
+    expect_equal_energy(lists, "471 samples, all numbers the largest");
+    lend_all(lists, MOST_SAMPLES, UINT32_MAX, UINT32_MAX);
+    expect_refused(read_samples(lists, 14), CK_SAMPLE_TOO_LARGE, "samples, all numbers of 32 bits");
+    for (int which = SAMPLES; which <= Z_BAR; which++) {
+        lend_all(lists, MOST_SAMPLES, 0, LARGEST_TABLE);
+        memcpy(numbers, lists[which].numbers, sizeof numbers);
+        numbers[MOST_SAMPLES - 1] = (which == SAMPLES ? LARGEST_SAMPLE : LARGEST_TABLE) + 1;
+        lists[which] = lend(which, numbers, MOST_SAMPLES);
+        expect_refused(read_samples(lists, 14), CK_SAMPLE_TOO_LARGE, "samples, the last number of a list one over its limit");
+    }
+}
+
+/* One list in all four places. */
+static void samples_that_are_their_tables(void) {
+    list lists[LISTS];
+    lend_all(lists, MOST_SAMPLES, LARGEST_TABLE, LARGEST_TABLE);
+    for (int which = X_BAR; which <= Z_BAR; which++) lists[which] = lists[SAMPLES];
+    expect_equal_energy(lists, "one list in all four places");
+}
+
 /* Lines of document 01's listing. */
 static void listing(void) {
-    const uint32_t *edges = lend(GOOD_EDGES, GOOD_COUNT);
+    const uint32_t *edges = lend(EDGES, GOOD_EDGES, GOOD_COUNT).numbers;
     ck_answer a = ck_read_micro(219300, 327100, edges, GOOD_COUNT, 2);
     char shown[LONGEST_LINE], *end = shown;
     show(shown, sizeof shown, a);
@@ -198,6 +317,10 @@ int main(int argc, char **argv) {
     make_pages();
     no_edges_at_all();
     not_finite();
+    samples_without_a_list();
+    samples_beyond_the_most();
+    samples_at_their_limits();
+    samples_that_are_their_tables();
     listing();
     long count = run_vectors(argv[1], argv[2]);
     if (count == 0) fail("no answer vectors", argv[1]);

@@ -1,28 +1,8 @@
-"""Correlated colour temperature, Duv and temperature class of one colour reading, answered by Cradlekeel's proved library.
+"""The readings that the library answers, what it answers and why it refuses."""
 
->>> import cradlekeel
->>> answer = cradlekeel.read_xy(0.3127, 0.3290)
->>> round(answer.kelvin), answer.duv, answer.class_index
-(6518, 0.003241, 3)
-
-Build the library first: `make lib` in the repository's root, and again after `.ci/run`, which empties target/. The
-variable CRADLEKEEL_LIBRARY names a library in another place. Only Python's standard library is used. examples/lamp.py is a
-whole program.
-
-The library takes single-precision floats. A Python float is a double, and it is rounded to the nearest single when it is
-handed over: 0.3127 is answered as 0.312700003385543823..., 0.99999999 becomes 1 and is refused, and 1e39 becomes an
-infinity. What then happens to the single is exact. `read_micro` takes whole numbers and rounds nothing.
-
-A reading that has no answer raises `Refusal`. A whole number that does not fit 32 bits raises `ValueError`.
-"""
-
-import ctypes
-import functools
-import operator
-import os
-import shlex
 from dataclasses import dataclass
-from pathlib import Path
+
+from ._library import call, u32
 
 EDGES = (1600, 2500, 3500, 5000, 20001)
 """The class edges in kelvin of a call that gives none."""
@@ -34,16 +14,17 @@ REASONS = {
     1: "the class edges must be 2 to 32 whole kelvins from 1600 to 20001, strictly rising",
     2: "a number of the reading is an infinity or a NaN",
     3: "a number of the reading is outside its range",
-    4: "the tristimulus value Y is under 1",
+    4: "the tristimulus value Y is too small: under 1, or 0 where it comes from spectral samples",
     5: "the reading is more than 0.030 from every stored point of the blackbody locus",
     6: "the reading lies beyond the 20,000 K end of the blackbody locus",
     7: "the reading lies beyond the 1600 K end of the blackbody locus",
+    9: "the samples, x_bar, y_bar and z_bar must be equally long, from 1 to 471 numbers each",
+    10: "a sample is over 16,777,215, or a number of x_bar, y_bar or z_bar is over 4,000,000",
 }
+"""What each refusal means; 9 and 10 are tested between 1 and 2, the others in the order of their numbers."""
 
 _KELVIN_PLACES = 103_360_000  # the temperature at a place is this over the place, in kelvin
 _NO_CLASS = 255
-_ROOT = Path(__file__).resolve().parent.parent
-_LIBRARY = "target/lib/libcradlekeel.so"
 
 
 class Refusal(ValueError):
@@ -69,13 +50,13 @@ class Refusal(ValueError):
         return f"refusal {self.number}: {self.reason}"
 
 
-class LibraryMissing(OSError):
-    """The library is not built."""
-
-
 @dataclass(frozen=True)
 class Answer:
-    """What an accepted reading comes to."""
+    """What an accepted reading comes to.
+
+    >>> print(read_xy(0.3127, 0.3290))
+    6517.8 K, Duv +0.003241, range 6516.2 to 6518.7 K, class 3
+    """
 
     kelvin: float
     """The correlated colour temperature: that of the nearest point seen, which can lie just outside `kelvin_range`."""
@@ -93,6 +74,11 @@ class Answer:
     """The bracket's hottest end, as a position."""
     high: int
     """The bracket's coolest end, as a position."""
+
+    def __str__(self):
+        low, high = self.kelvin_range
+        named = "no class" if self.class_index is None else f"class {self.class_index}"
+        return f"{self.kelvin:.1f} K, Duv {self.duv:+.6f}, range {low:.1f} to {high:.1f} K, {named}"
 
 
 def read_uv(u, v, edges=EDGES, steps=STEPS):
@@ -148,61 +134,33 @@ def read_micro(u, v, edges=EDGES, steps=STEPS):
     Answer(kelvin=2857.1428571428573, duv=0.0, kelvin_range=(2666.6666666666665, 3076.923076923077), class_index=1,
            steps=0, place=36176, low=33592, high=38760)
     """
-    return _read("ck_read_micro", (_u32("u", u), _u32("v", v)), edges, steps)
+    return _read("ck_read_micro", (u32("u", u), u32("v", v)), edges, steps)
 
 
-class _Whole(ctypes.Structure):
-    """`ck_whole` of include/cradlekeel.h."""
+def read_samples(samples, x_bar, y_bar, z_bar, edges=EDGES, steps=STEPS):
+    """The answer to spectral samples: 1 to 471 whole numbers, each 0 to 16,777,215, with the three colour-matching functions at
+    the same wavelengths as whole numbers of millionths, each 0 to 4,000,000.
 
-    _fields_ = [("place", ctypes.c_uint32), ("low", ctypes.c_uint32), ("high", ctypes.c_uint32), ("duv", ctypes.c_int32),
-                ("refusal", ctypes.c_uint8), ("steps", ctypes.c_uint8), ("class_index", ctypes.c_uint8)]
+    X, Y and Z are plain sums of products, so the wavelengths must be equally far apart; any unit of the samples will do, but
+    they are whole numbers: let the largest come near 16,777,215.
+    `cie_1931` has the tables of CIE's standard observer, and `read_spectrum` takes values that are not whole.
 
-
-class _Answer(ctypes.Structure):
-    """`ck_answer` of include/cradlekeel.h."""
-
-    _fields_ = [("kelvin", ctypes.c_double), ("duv", ctypes.c_double), ("whole", _Whole)]
-
-
-_NUMBERS = {"ck_read_uv": 2 * [ctypes.c_float], "ck_read_uvp": 2 * [ctypes.c_float], "ck_read_xy": 2 * [ctypes.c_float],
-            "ck_read_xyz": 3 * [ctypes.c_float], "ck_read_micro": 2 * [ctypes.c_uint32]}
-
-
-@functools.lru_cache(maxsize=None)
-def _library():
-    named = os.environ.get("CRADLEKEEL_LIBRARY")
-    path = Path(named) if named else _ROOT / _LIBRARY
-    if not path.is_file():
-        raise LibraryMissing(
-            f"CRADLEKEEL_LIBRARY names {path}, and there is no such file" if named else
-            f"Cradlekeel's library is not built: there is no {path}. Run: make -C {shlex.quote(str(_ROOT))} lib")
-    library = ctypes.CDLL(str(path))
-    for name, numbers in _NUMBERS.items():
-        function = getattr(library, name)
-        function.argtypes = [*numbers, ctypes.POINTER(ctypes.c_uint32), ctypes.c_size_t, ctypes.c_uint32]
-        function.restype = _Answer
-    return library
+    >>> from cradlekeel import cie_1931
+    >>> equal_energy = 471 * [1000]
+    >>> print(read_samples(equal_energy, *cie_1931(360, 830, 1)))
+    5451.5 K, Duv -0.004362, range 5450.3 to 5452.1 K, class 3
+    >>> read_samples([1000], [1], [1], [1, 1])
+    Traceback (most recent call last):
+        ...
+    cradlekeel.Refusal: refusal 9: the samples, x_bar, y_bar and z_bar must be equally long, from 1 to 471 numbers each
+    """
+    lists = {"samples": samples, "x_bar": x_bar, "y_bar": y_bar, "z_bar": z_bar}
+    reading = [[u32(name, number, i) for i, number in enumerate(numbers)] for name, numbers in lists.items()]
+    return _read("ck_read_samples", reading, edges, steps)
 
 
-def _u32(name, value):
-    """A whole number that fits 32 bits: ctypes would cut a larger one without a word."""
-    try:
-        number = operator.index(value)
-    except TypeError:
-        raise TypeError(f"{name} is {value!r}, which is not a whole number") from None
-    if not 0 <= number < 2**32:
-        raise ValueError(f"{name} is {number}, which does not fit an unsigned whole number of 32 bits")
-    return number
-
-
-def _call(name, numbers, edges, steps):
-    """One call of the C function `name`, its result as it is."""
-    lent = (ctypes.c_uint32 * len(edges))(*edges)
-    return getattr(_library(), name)(*numbers, lent, len(lent), steps)
-
-
-def _read(name, numbers, edges, steps):
-    found = _call(name, numbers, [_u32("an edge", edge) for edge in edges], _u32("steps", steps))
+def _read(name, reading, edges, steps):
+    found = call(name, reading, [u32("an edge", edge) for edge in edges], u32("steps", steps))
     whole = found.whole
     if whole.refusal:
         raise Refusal(whole.refusal)

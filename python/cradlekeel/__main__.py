@@ -1,0 +1,49 @@
+"""Runs a command of the package: `python3 -m cradlekeel COMMAND ..`, which is `bin/cradlekeel COMMAND ..` once the library is built."""
+
+import importlib
+import signal
+import sys
+
+from .commands import ANSWERED, FAILED, NOT_RUN, WriteFailed, WrongUsage, say, show
+
+COMMANDS = {  # a module of cradlekeel.commands for each
+    "spectrum": "the temperature, Duv and class of spectra in a meter's files",
+}
+
+USAGE = """usage: cradlekeel COMMAND ..
+
+{commands}
+
+cradlekeel COMMAND --help tells more of each.
+"""
+
+
+def main(words):
+    """Runs the command that the first word names and returns the exit status."""
+    for stopped in (signal.SIGINT, signal.SIGPIPE):
+        signal.signal(stopped, signal.SIG_DFL)  # ends without a word, as filters do
+    name = words[0] if words else ""
+    try:
+        if name in ("-h", "--help"):
+            show(usage())
+            return ANSWERED
+        if name not in COMMANDS:
+            raise WrongUsage(f"'{name}' is not a command" if words else "no command is named")
+        return importlib.import_module(f".commands.{name}", __package__).run(words[1:])
+    except WrongUsage as error:
+        say(f"{error}; see cradlekeel {name + ' ' if name in COMMANDS else ''}--help")
+        return NOT_RUN
+    except WriteFailed as error:
+        say(error)
+        return FAILED
+    except OSError as error:  # the library, or a table of data/, is not there
+        say(error)
+        return NOT_RUN
+
+
+def usage():
+    return USAGE.format(commands="\n".join(f"  {name:10}  {purpose}" for name, purpose in COMMANDS.items()))
+
+
+if __name__ == "__main__":
+    sys.exit(main(sys.argv[1:]))

@@ -1,0 +1,69 @@
+"""What the commands of `python3 -m cradlekeel` share: each is a module here whose docstring is its help and whose
+`run(words)` takes the words after its name and returns the exit status."""
+
+import getopt
+import os
+import re
+
+ANSWERED, FAILED, NOT_RUN = 0, 1, 2  # exit statuses: 1 where a file could not be read or written, 2 for wrong usage or no library
+
+
+class WrongUsage(Exception):
+    """Words that a command does not take."""
+
+
+class WriteFailed(Exception):
+    """Standard output cannot be written."""
+
+
+def show(text):
+    """Writes to standard output at once; a file name that cannot be decoded keeps its bytes."""
+    try:
+        _write(1, text)
+    except OSError as error:
+        raise WriteFailed(f"cannot write standard output: {error.strerror}") from None
+
+
+def say(text):
+    """Writes a message to standard error; where that cannot be written, nothing is left to tell it to."""
+    try:
+        _write(2, f"cradlekeel: {text}\n")
+    except OSError:
+        pass
+
+
+def _write(descriptor, text):
+    rest = os.fsencode(text)
+    while rest:
+        rest = rest[os.write(descriptor, rest):]
+
+
+def options_of(words, names):
+    """The options among the words, by name, and the other words; a name that ends with `=` takes a value."""
+    try:
+        options, others = getopt.gnu_getopt(words, "h", ["help", *names])
+    except getopt.GetoptError as error:
+        raise WrongUsage(error.msg) from None
+    return {"--help" if name == "-h" else name: value for name, value in options}, others
+
+
+def whole_number(option, text):
+    """The value of an option as a whole number that the library can take."""
+    if not re.fullmatch("[0-9]{1,10}", text) or int(text) >= 2**32:
+        raise WrongUsage(f"{option}: '{text}' is not a whole number from 0 to 4294967295")
+    return int(text)
+
+
+def bytes_of(name):
+    """All that a file holds, `-` being standard input; a read that fails is an error, so that no file is taken to end early."""
+    if name == "-":
+        return _read_all(0)
+    descriptor = os.open(name, os.O_RDONLY)
+    try:
+        return _read_all(descriptor)
+    finally:
+        os.close(descriptor)
+
+
+def _read_all(descriptor):
+    return b"".join(iter(lambda: os.read(descriptor, 1 << 16), b""))
