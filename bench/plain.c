@@ -1,10 +1,12 @@
-/* The rules of document 01 in plain C, written for the benchmark from the document as a C programmer would write them for
- * speed: constant tables, 32-bit products where they fit, distances carried from step to step, the machine's square root. */
+/* The rules of document 01, and those of document 02 for spectral samples, in plain C, written for the benchmark from the
+ * documents as a C programmer would write them for speed: constant tables, 32-bit products where they fit, distances carried
+ * from step to step, the machine's square root, the sums and limits of samples in one pass. */
 #include "plain.h"
 
 #include <math.h>
 
 enum { ENTRIES = 24, PIECE = 2584, KELVIN_PLACES = 103360000, MOST_STEPS = 14, WHOLE_LIMIT = 4000000 };
+enum { MOST_SAMPLES = 471, SAMPLE_LIMIT = 16777215, OBSERVER_LIMIT = 4000000 };
 static const int64_t FARTHEST = 900000000;
 
 static const uint32_t TABLE_U[ENTRIES] = {183870, 186730, 190310, 194620, 199620, 205240, 211420, 218070,
@@ -150,11 +152,55 @@ static uint64_t to_micro(float x) { return (uint64_t)((double)x * 1e6 + 0.5); }
 
 static uint32_t nearest_quotient(uint64_t a, uint64_t b) { return (uint32_t)((2 * a + b) / (2 * b)); }
 
+/* u and v from x and y, or from X and Y, over the divisor n. */
+static point point_over(uint64_t x, uint64_t y, uint64_t n) {
+    return (point){nearest_quotient(4 * x * 1000000, n), nearest_quotient(6 * y * 1000000, n)};
+}
+
 ck_answer plain_read_xy(float x, float y, const uint32_t *edges, size_t edge_count, uint32_t max_steps) {
     if (!edges_valid(edges, edge_count)) return with_floats(refused(CK_BAD_EDGES));
     if (!isfinite(x) || !isfinite(y)) return with_floats(refused(CK_NOT_FINITE));
     if (!(x >= 0 && x < 1 && y >= 0 && y < 1)) return with_floats(refused(CK_OUT_OF_RANGE));
-    uint64_t mx = to_micro(x), my = to_micro(y), n = 3000000 + 12 * my - 2 * mx;
-    point reading = {nearest_quotient(4 * mx * 1000000, n), nearest_quotient(6 * my * 1000000, n)};
-    return with_floats(answer(reading, edges, edge_count, max_steps));
+    uint64_t mx = to_micro(x), my = to_micro(y);
+    return with_floats(answer(point_over(mx, my, 3000000 + 12 * my - 2 * mx), edges, edge_count, max_steps));
+}
+
+/* X, Y and Z, and what tells whether a number was over its limit: all bits of the samples, whose limit is 2^24 - 1, and the
+ * largest number of the tables. A sum can wrap only where a number was over, and then it is not used. */
+typedef struct {
+    uint64_t x, y, z;
+    uint32_t sample_bits, observer_largest;
+} sums;
+
+static uint32_t larger(uint32_t a, uint32_t b) { return a > b ? a : b; }
+
+static sums sum_products(const uint32_t *samples, const uint32_t *x_bar, const uint32_t *y_bar, const uint32_t *z_bar, size_t count) {
+    sums s = {0};
+    for (size_t i = 0; i < count; i++) {
+        uint64_t sample = samples[i];
+        s.x += sample * x_bar[i], s.y += sample * y_bar[i], s.z += sample * z_bar[i];
+        s.sample_bits |= samples[i];
+        s.observer_largest = larger(larger(larger(s.observer_largest, x_bar[i]), y_bar[i]), z_bar[i]);
+    }
+    return s;
+}
+
+/* The sums over the least power of two that leaves the largest under 2^32, then the XYZ rule. */
+static ck_whole answer_sums(sums s, const uint32_t *edges, size_t edge_count, uint32_t max_steps) {
+    uint64_t high = (s.x | s.y | s.z) >> 32;
+    int shift = high == 0 ? 0 : 64 - __builtin_clzll(high);
+    uint64_t x = s.x >> shift, y = s.y >> shift, z = s.z >> shift;
+    if (y == 0) return refused(CK_TOO_DARK);
+    return answer(point_over(x, y, x + 15 * y + 3 * z), edges, edge_count, max_steps);
+}
+
+ck_answer plain_read_samples(const uint32_t *samples, size_t sample_count, const uint32_t *x_bar, size_t x_count,
+                             const uint32_t *y_bar, size_t y_count, const uint32_t *z_bar, size_t z_count,
+                             const uint32_t *edges, size_t edge_count, uint32_t max_steps) {
+    if (!edges_valid(edges, edge_count)) return with_floats(refused(CK_BAD_EDGES));
+    if (sample_count == 0 || sample_count > MOST_SAMPLES || x_count != sample_count || y_count != sample_count || z_count != sample_count)
+        return with_floats(refused(CK_BAD_LENGTHS));
+    sums s = sum_products(samples, x_bar, y_bar, z_bar, sample_count);
+    if (s.sample_bits > SAMPLE_LIMIT || s.observer_largest > OBSERVER_LIMIT) return with_floats(refused(CK_SAMPLE_TOO_LARGE));
+    return with_floats(answer_sums(s, edges, edge_count, max_steps));
 }
