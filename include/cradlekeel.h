@@ -11,7 +11,7 @@
  *
  * Promised of every function, for every value of its arguments, and proved of the code that the library is compiled from
  * (crates/cct_c and the crates below it):
- *   - it returns, and what it returns is the answer that the definitions in crates/cct/specs give;
+ *   - it returns, and what it returns is the answer that the definitions give (README.md lists them in their order);
  *   - it writes nothing through `edges`, nor through any other pointer that it takes.
  * The functions keep nothing between calls and allocate nothing, so threads may call them at the same time.
  *
@@ -98,8 +98,8 @@ ck_answer ck_read_micro(uint32_t u, uint32_t v, const uint32_t *edges, size_t ed
 /* Spectral samples, each 0 to 16,777,215, with the three colour-matching functions at the same wavelengths in whole millionths,
  * each 0 to 4,000,000; 1 to 471 numbers in each of the four lists. data/ has CIE's tables of 1931. X, Y and Z are the sums of
  * sample times table number, so the wavelengths should be equally far apart; a meter's values are best multiplied so that the
- * largest is 16,777,215, as in examples/samples.c. All three are divided, rounding down, by the least
- * power of two (1 included) that leaves the largest under 2^32; answered at u = 4X / (X + 15Y + 3Z), v = 6Y / (X + 15Y + 3Z).
+ * largest is 16,777,215, as in examples/samples.c. All three are divided, rounding down, by the least power of two (1 included)
+ * that leaves the largest under 2^32; answered at u = 4X / (X + 15Y + 3Z), v = 6Y / (X + 15Y + 3Z).
  * Refusals, in this order: CK_BAD_EDGES, CK_BAD_LENGTHS (of all four counts, before any number is looked at),
  * CK_SAMPLE_TOO_LARGE, CK_TOO_DARK, CK_TOO_FAR, CK_TOO_HOT, CK_TOO_COOL. */
 ck_answer ck_read_samples(const uint32_t *samples, size_t sample_count, const uint32_t *x_bar, size_t x_count,

@@ -55,7 +55,7 @@ is-point (Xyz x y z) = (_, _, refl)
 pub never : {A : Type 0} {c : Converted} {u v : ℕ} {s : Refusal} → c ≡ Point u v → c ≡ Refused s → A
 never p q = let z : _≡_ {A = ℕ} 0 1 = cc in absurd (omega arith)
 
--- what holds of a refusal that is given holds of whichever refusal is given
+-- a conversion gives at most one refusal: what holds of one that it gives holds of any that it gives
 pub of-given : {c : Converted} {t s : Refusal} (P : Refusal → Type 0) → c ≡ Refused t → c ≡ Refused s → P t → P s
 of-given {t = t} {s = s} P p q k = let e : t ≡ s = cc in subst P e k
 

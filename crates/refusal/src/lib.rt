@@ -19,7 +19,7 @@ pub enum Refusal {
     TooCool,
     // A line of text that cannot be read.
     BadLine,
-    // Samples and observer tables of different lengths, or none of them, or too many.
+    // Samples and observer tables that are not all equally long, or have no number, or too many.
     BadLengths,
     // A sample or an observer table's number over its limit.
     SampleTooLarge,
