@@ -9,7 +9,7 @@ import reference as ref
 from core_cases import edge_lists, edges_about, edges_around, rising_edges, spoilt
 from dice import Dice
 from floats import NEGATIVE_INFINITY, QUIET_NAN, nearest_f32
-from hard_floats import LIMIT_4096, ONE, TINY_NEGATIVE
+from hard_floats import DARK, LIMIT_4096, MINUS_ONE, ONE
 from readings import (AS_FLOATS, admitted, as_xyz, at_the_limit, behind_an_end, best_outside, comparisons, entry_ties,
                       looks, near_locus, search_ties)
 
@@ -138,14 +138,13 @@ FAR_ASIDE = (250_000, 500_000)
 def clashes():
     """(kind, args): readings at which two or more of refusals 2 to 7 hold at once, in every pair that can."""
     beyond, infinite = nearest_f32(5000), NEGATIVE_INFINITY
-    for bad, out in product((QUIET_NAN, infinite), (ONE, TINY_NEGATIVE)):  # 2 and 3
+    for bad, out in product((QUIET_NAN, infinite), (ONE, MINUS_ONE)):  # 2 and 3
         for kind in ("uv", "uvp", "xy"):
             yield kind, (bad, out)
             yield kind, (out, bad)
-    dark = nearest_f32(Fraction(1, 2))
     for bad in (QUIET_NAN, infinite):  # 2 and 4; 2, 3 and 4
-        yield from (("xyz", args) for args in ((bad, dark, dark), (dark, dark, bad), (bad, dark, beyond), (beyond, 0, bad)))
-    yield from (("xyz", args) for args in ((beyond, dark, dark), (dark, 0, beyond), (dark, TINY_NEGATIVE, dark)))  # 3 and 4
+        yield from (("xyz", args) for args in ((bad, DARK, DARK), (DARK, DARK, bad), (bad, DARK, beyond), (beyond, 0, bad)))
+    yield from (("xyz", args) for args in ((beyond, DARK, DARK), (DARK, 0, beyond), (DARK, MINUS_ONE, DARK)))  # 3 and 4
     for reading in (FAR_ASIDE, BEHIND_FIRST, BEHIND_LAST, FAR_BEHIND_FIRST, FAR_BEHIND_LAST):  # 4 with 5, 6, 7
         yield "xyz", as_xyz(*reading, brightness=Fraction(99, 100))
         yield "xyz", as_xyz(*reading, brightness=2)

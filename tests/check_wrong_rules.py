@@ -25,6 +25,7 @@ import vectors
 from floats import exact_value, is_finite
 from hard_floats import single_precision_product
 from sample_lists import Lists, changes
+from wrong_below_zero_rules import WRONG_BELOW_ZERO_RULES
 from wrong_sample_rules import WRONG_SAMPLE_RULES
 
 CRATES = Path(__file__).resolve().parent.parent / "crates"
@@ -73,20 +74,20 @@ def kelvins_rounded_to_nearest(place, kelvin_at=ref.kelvin_at):
     return Fraction(ref.rounded(kelvin_at(place)))
 
 
-def one_float_after_the_other(patterns, unit):
+def one_float_after_the_other(patterns, quantity):
     for bits in patterns:
         if not is_finite(bits):
             raise ref.Refused(ref.NOT_FINITE)
-        if not 0 <= exact_value(bits) < unit[1]:
+        if not ref.in_range(exact_value(bits), quantity):
             raise ref.Refused(ref.OUT_OF_RANGE)
-    return [ref.whole_number(bits, unit[0]) for bits in patterns]
+    return [ref.whole_number(bits, quantity[0]) for bits in patterns]
 
 
-def range_of_the_whole_number(patterns, unit):
+def range_of_the_whole_number(patterns, quantity):
     if not all(is_finite(bits) for bits in patterns):
         raise ref.Refused(ref.NOT_FINITE)
-    numbers = [ref.whole_number(bits, unit[0]) for bits in patterns]
-    if not all(0 <= number < unit[0] * unit[1] for number in numbers):
+    numbers = [ref.whole_number(bits, quantity[0]) for bits in patterns]
+    if not all(0 <= number < quantity[0] * quantity[1] for number in numbers):
         raise ref.Refused(ref.OUT_OF_RANGE)
     return numbers
 
@@ -277,12 +278,13 @@ def main():
     others = [vector for vector in committed if not is_of_samples(vector[0])]
     assert first_caught_text(texts) is None, "the right rules give another output"
     assert first_caught(of_samples) is None, "the right rules give another answer"
-    missed = missed_of(WRONG_RULES, lambda: first_caught(others))
+    missed = missed_of(WRONG_RULES + WRONG_BELOW_ZERO_RULES, lambda: first_caught(others))
     missed += missed_of(WRONG_SAMPLE_RULES, lambda: first_caught(of_samples))
     missed += missed_of(WRONG_TEXT_RULES, lambda: first_caught_text(texts))
     if missed:
         sys.exit("check_wrong_rules: not caught: " + ", ".join(missed))
-    print("check_wrong_rules: all %d wrong rules are caught" % (len(WRONG_RULES) + len(WRONG_SAMPLE_RULES) + len(WRONG_TEXT_RULES)))
+    count = len(WRONG_RULES + WRONG_BELOW_ZERO_RULES + WRONG_SAMPLE_RULES + WRONG_TEXT_RULES)
+    print("check_wrong_rules: all %d wrong rules are caught" % count)
 
 
 if __name__ == "__main__":

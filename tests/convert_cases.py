@@ -7,7 +7,7 @@ from math import gcd
 import reference as ref
 from dice import Dice
 from floats import NANS, nearest_f32
-from hard_floats import LIMIT_4096, ONE, SPECIALS, TINY_NEGATIVE, TWO, hard_floats
+from hard_floats import LIMIT_4096, MINUS_ONE, ONE, SPECIALS, TWO, hard_floats
 
 PAIRS = ("uv", "uvp", "xy")
 QUARTER = nearest_f32(Fraction(1, 4))
@@ -44,7 +44,7 @@ def refusal_orders(dice):
     for kind in PAIRS:
         for patterns in product(coordinates, repeat=2):
             yield hex_line(kind, *patterns)
-    tristimulus = SPECIALS[1:6] + (LIMIT_4096, NEXT_BELOW_4096, LAST_DARK, FIRST_LIGHT, HUNDRED)
+    tristimulus = SPECIALS[1:7] + (LIMIT_4096, NEXT_BELOW_4096, LAST_DARK, FIRST_LIGHT, HUNDRED)
     for patterns in product(tristimulus, repeat=3):
         yield hex_line("xyz", *patterns)
 
@@ -54,7 +54,7 @@ def nan_payloads(dice):
     for nan in NANS:
         for kind in PAIRS:
             yield hex_line(kind, nan, TWO)
-            yield hex_line(kind, TINY_NEGATIVE, nan)
+            yield hex_line(kind, MINUS_ONE, nan)
         for place in range(3):
             patterns = [LIMIT_4096] * 3
             patterns[place] = nan
@@ -145,14 +145,12 @@ def lines():
         yield from section
 
 
-def converted(kind, args):
+def converted_line(kind, args):
     """`0 u v`, or the refusal's number alone."""
-    try:
-        return "0 %d %d" % tuple(ref.CONVERSIONS[kind](*args))
-    except ref.Refused as refused:
-        return "%d" % refused.number
+    found = ref.converted(kind, args)
+    return "%d" % found if isinstance(found, int) else "0 %d %d" % found
 
 
 def expected(line):
     kind, *fields = line.split()
-    return converted(kind, [int(field, 10 if kind == "whole" else 16) for field in fields])
+    return converted_line(kind, [int(field, 10 if kind == "whole" else 16) for field in fields])

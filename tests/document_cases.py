@@ -1,10 +1,10 @@
 """Document 01's own cases, typed in from the document and never from a program's output: the listing, the (P) cases
-and the "Also run" list; and cases of document 02's No. 1, worked out by hand. `check()` holds the reference to all of them."""
+and the "Also run" list; and cases of document 02's No. 1 and 2, worked out by hand. `check()` holds the reference to them all."""
 
 from fractions import Fraction
 
 import reference as ref
-from floats import QUIET_NAN, nearest_f32
+from floats import NEGATIVE_INFINITY, QUIET_NAN, nearest_f32
 
 LISTING = (
     ("255910 349510 0", "0 36176 33592 38760 0 0 1"),
@@ -41,6 +41,22 @@ REFUSALS = (
     ("uv", ("1/4", "1/4"), (5000, 5000), 1),
 )
 
+# Half the unit is 1/2,000,000 for coordinates, between 2^-21 and 2^-20, and 1/200,000 for tristimulus values, between 2^-18 and
+# 2^-17.
+BELOW_ZERO = (
+    ("uv", ("-1/2097152", "1/4"), (0, 250000)),
+    ("uv", ("1/4", "-1/2097152"), (250000, 0)),
+    ("uv", ("-1/1048576", "1/4"), 3),
+    ("uvp", ("1/4", "-1/2097152"), (250000, 0)),
+    ("uvp", ("1/4", "-1/1048576"), 3),
+    ("xy", ("-1/2097152", "1/4"), (0, 250000)),  # n is 6,000,000
+    ("xyz", ("1", "1", "-1/262144"), (250000, 375000)),  # Z counts as 0, so that n is 1,600,000
+    ("xyz", ("1", "1", "-1/131072"), 3),
+    ("xyz", ("1", "-1/262144", "1"), 4),  # Y counts as 0
+    ("xyz", ("1", "-1/131072", "1"), 3),
+    ("xy", ("-inf", "-1/2097152"), 2),
+)
+
 # samples, x_bar, y_bar, z_bar; then u and v, or the refusal's number.
 SPECTRA = (
     (((1,), (1,), (1,), (1,)), (210526, 315789)),  # X = Y = Z, the ratios of XYZ (100, 100, 100)
@@ -60,8 +76,8 @@ SPECTRA = (
 
 
 def bits(text):
-    """The f32 bits of a fraction written as text, or of a NaN."""
-    return QUIET_NAN if text == "nan" else nearest_f32(Fraction(text))
+    """The f32 bits of a fraction written as text, of a NaN or of minus infinity."""
+    return {"nan": QUIET_NAN, "-inf": NEGATIVE_INFINITY}.get(text) or nearest_f32(Fraction(text))
 
 
 def check_conversions():
@@ -83,12 +99,15 @@ def check_refusals():
         assert found == ref.Answer(expected), (kind, args, edges, expected, found)
 
 
+def check_below_zero():
+    for kind, args, expected in BELOW_ZERO:
+        found = ref.converted(kind, map(bits, args))
+        assert found == expected, (kind, args, expected, found)
+
+
 def check_spectra():
     for lists, expected in SPECTRA:
-        try:
-            found = ref.convert_samples(*lists)
-        except ref.Refused as refused:
-            found = refused.number
+        found = ref.converted("samples", lists)
         assert found == expected, (lists, expected, found)
 
 
@@ -114,6 +133,7 @@ def check():
     check_conversions()
     check_listing()
     check_refusals()
+    check_below_zero()
     check_spectra()
     check_allowances()
     check_stored_locus()

@@ -26,7 +26,7 @@ def exact_value(bits):
 
 
 def nearest_f32(value):
-    """The bits of an f32 next to a fraction: used only to choose inputs, so a double rounding would do no harm."""
+    """The bits of an f32 next to a fraction, to choose inputs and in wrong rules: there a double rounding would do no harm."""
     return struct.unpack("<I", struct.pack("<f", float(value)))[0]
 
 

@@ -1,5 +1,5 @@
-"""The rules of document 01, and of request No. 1 of document 02, in exact whole numbers and fractions: the independent second
-program.
+"""The rules of document 01, and of requests No. 1 and 2 of document 02, in exact whole numbers and fractions: the independent
+second program.
 
 It follows the documents' own words, letters and sections and shares no code with the crates. Where a rule can be said in
 another way than there, it is: the locus goes by mired, the bracket by its three cases, the nearest point seen by all points
@@ -41,19 +41,24 @@ WHOLE_LIMIT = 4_000_000
 DARK = 100_000
 
 
+def in_range(value, quantity):
+    """Above -1/2 of the unit 1/S (document 02, No. 2), and below the bound."""
+    scale, bound = quantity
+    return -Fraction(1, 2 * scale) < value < bound
+
+
 def whole_number(bits, scale):
-    """floor(x * S + 1/2) of a float's exact value x."""
+    """floor(x * S + 1/2) of a float's exact value x; 0 for every float below zero that is in its range."""
     return floor(exact_value(bits) * scale + Fraction(1, 2))
 
 
-def whole_numbers(patterns, unit):
+def whole_numbers(patterns, quantity):
     """The floats of a reading as whole numbers; refusal 2 over all of them comes before refusal 3 over all of them."""
-    scale, bound = unit
     if not all(is_finite(bits) for bits in patterns):
         raise Refused(NOT_FINITE)
-    if not all(0 <= exact_value(bits) < bound for bits in patterns):
+    if not all(in_range(exact_value(bits), quantity) for bits in patterns):
         raise Refused(OUT_OF_RANGE)
-    return [whole_number(bits, scale) for bits in patterns]
+    return [whole_number(bits, quantity[0]) for bits in patterns]
 
 
 def convert_uv(u, v):
@@ -148,6 +153,14 @@ def convert_samples(samples, x_bar, y_bar, z_bar):
 
 CONVERSIONS = {"uv": convert_uv, "uvp": convert_uvp, "xy": convert_xy, "xyz": convert_xyz, "whole": convert_whole,
                "samples": convert_samples}
+
+
+def converted(kind, args):
+    """u and v, or the refusal's number."""
+    try:
+        return CONVERSIONS[kind](*args)
+    except Refused as refused:
+        return refused.number
 
 
 # --- The stored locus -------------------------------------------------------------------------------------------------

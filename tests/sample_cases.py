@@ -12,7 +12,7 @@ import reference as ref
 import spectra
 from answer_cases import (ALLOWANCES, BEHIND_FIRST, BEHIND_LAST, FAR_BEHIND_FIRST, LARGEST_U32, REFINEMENTS, TEXT_EDGES, answered,
                           any_edges, check_refinement, line, refinement_readings)
-from convert_cases import converted
+from convert_cases import converted_line
 from core_cases import edge_lists, edges_around, rising_edges, spoilt
 from dice import Dice
 from readings import admitted, at_the_limit, behind_an_end, is_admitted
@@ -404,5 +404,5 @@ def expected(text, held):
     if kind == "list":
         return "%d" % len(getattr(held, fields[0]))
     if kind == "samples":
-        return converted("samples", held)
+        return converted_line("samples", held)
     return answered("samples", held, fields[1:])

@@ -1,12 +1,13 @@
 """Every vector in the order of the file, and what the reference expects of a line."""
 
 import answer_cases
+import below_zero_cases
 import convert_cases
 import core_cases
 import sample_cases
 from sample_lists import Lists, held_after
 
-SECTIONS = (convert_cases, core_cases, answer_cases, sample_cases)
+SECTIONS = (convert_cases, core_cases, answer_cases, sample_cases, below_zero_cases)
 CORE_KINDS = ("point", "entry", "search", "class", "edges")
 
 

@@ -1,21 +1,27 @@
--- The exact product of a float and twice its scale, cut to a whole number, and half of one more: the definition's quotient.
-use mathlib.Core.Path.{_≡_, sym, ap, _∙_}
-use mathlib.Core.Bool.{Bool, true, false, not, _&&_}
+-- The exact product of a float and twice its scale, cut to a whole number, and half of one more: the definition's whole number.
+use mathlib.Core.Path.{_≡_, refl, sym, ap, _∙_}
+use mathlib.Core.Bool.{Bool, true, false, false≢true}
 use Prim.Native.Nat.{ℕ, suc, _+_, _*_, _/_, _^_, _≤_, _<_}
-use native.Mathlib.Nat.{le-trans, lt-of-le-of-lt, le-of-lt, le-of-eq, le-refl, le-of-suc-le-suc, mul-comm, mul-assoc, mul-right-comm, mul-left-comm, zero-mul, mul-le-mul-right, mul-lt-mul-of-pos-right, lt-of-mul-lt-mul-right, add-div-right, div-div-eq-div-mul, div-lt-iff-lt-mul, div-eq-of-lt}
+use native.Mathlib.Nat.{le-trans, lt-of-le-of-lt, le-of-lt, le-of-eq, le-refl, le-of-suc-le-suc, mul-comm, mul-assoc, mul-right-comm, mul-left-comm, mul-le-mul-right, mul-lt-mul-of-pos-right, lt-of-mul-lt-mul-right, add-div-right, div-div-eq-div-mul, div-lt-iff-lt-mul, div-eq-of-lt}
 use native.Mathlib.Omega.{arith}
 use lib.IntN.{ℤ, pos}
-use lib.Dec.{T, ltb, lt→ltb}
-use borrow.Author.Tests.{ltb-true, ltb-false, not-true}
+use lib.Dec.{T, lt→ltb}
+use borrow.Author.Tests.{ltb-true}
 use lib.Ieee.{Float, nan, inf, fin, up, down, lt, toUnsigned}
 use lib.Ieee.Fits.{down-pos}
 use lib.Ieee.Exact.{HasValue}
 use lib.Ieee.Nearest.{div-same}
 use Rattle.arith.specs.Rounding.{nearestQuotient}
-use Rattle.arith.specs.TestLaws.{and-both}
 use Rattle.reading.specs.Whole.{inRange, toWhole}
 use Rattle.reading.specs.Code.Product.{IsProduct}
 use Rattle.reading.specs.declared.Quantity.{Quantity}
+
+-- what the code needs of the product p of x and 2 * scale
+pub record Halves (q : Quantity) (x p : Float) : Type 0 where
+  pub above : T (lt (fin true 1 (pos 0)) p)
+  pub below : T (lt p (fin false 1 (pos 64)))
+  pub small : toUnsigned 64 p ≤ 2 * (q .bound * q .scale)
+  pub whole : (toUnsigned 64 p + 1) / 2 ≡ toWhole q x
 
 -- A float of the value ±A / B, above -1 and below 2 ^ 64, cut to a whole number
 module _ (s : Bool) (A B : ℕ) (some : 0 < B) (above : s ≡ true → A < B) (below : A < 2 ^ 64 * B) where
@@ -49,12 +55,9 @@ module _ (s : Bool) (A B : ℕ) (some : 0 < B) (above : s ≡ true → A < B) (b
       let r : A / B < 2 ^ 64 = div-lt-iff-lt-mul some .1 below in
       omega arith
 
--- what the code needs of the product p of x and 2 * scale
-pub record Halves (q : Quantity) (x p : Float) : Type 0 where
-  pub above : T (lt (fin true 1 (pos 0)) p)
-  pub below : T (lt p (fin false 1 (pos 64)))
-  pub small : toUnsigned 64 p ≤ 2 * (q .bound * q .scale)
-  pub whole : (toUnsigned 64 p + 1) / 2 ≡ toWhole q x
+  -- what the code needs, from two facts of the quotient
+  cut : (q : Quantity) (x p : Float) → HasValue p s A B → A / B ≤ 2 * (q .bound * q .scale) → (A / B + 1) / 2 ≡ toWhole q x → Halves q x p
+  cut q x p v few same = let is = cut-is p v in record { above = cut-above p v; below = cut-below p v; small = rw is few; whole = rw is same }
 
 -- floor((floor(2 * a / b) + 1) / 2) is floor(a / b + 1 / 2)
 rounded : (a S b : ℕ) → 0 < b → (a * (2 * S) / b + 1) / 2 ≡ nearestQuotient (a * S) b
@@ -70,29 +73,17 @@ bounded a b S k h = le-trans (mul-le-mul-right (2 * S) (le-of-lt h)) (le-of-eq (
 quotient-le : (a b q : ℕ) → 0 < b → a ≤ q * b → a / b ≤ q
 quotient-le a b q B h = le-of-suc-le-suc (div-lt-iff-lt-mul B .1 (lt-of-le-of-lt h (mul-lt-mul-of-pos-right (le-refl (suc q)) B)))
 
--- a number that is not under zero is zero where its sign is minus
-nothing : (s : Bool) (a n b : ℕ) → 0 < b → not (s && ltb 0 a) ≡ true → s ≡ true → a * n < b
-nothing s a n b B h e =
-    let z : a ≤ 0 = ltb-false 0 a (not-true (ltb 0 a) (rw e at h)) in
-    lt-of-le-of-lt (mul-le-mul-right n z) (rw (zero-mul n) B)
-
 pub halves : (q : Quantity) → q .bound * q .scale < 2 ^ 32 → (x p : Float) → inRange q x ≡ true → IsProduct x (2 * q .scale) p → Halves q x p
 unfolding inRange toWhole
 halves q room nan p h v = absurd v
 halves q room (inf s) p h v = absurd v
-halves q room (fin s m e) p h v =
+halves q room (fin true m e) p h v =
+    let under : m * up e * (2 * q .scale) < down e = rw (mul-left-comm (m * up e) 2 (q .scale)) (ltb-true _ _ h) in
+    let none = div-eq-of-lt under in
+    cut true (m * up e * (2 * q .scale)) (down e) (down-pos e) (λ t. under) (omega arith) q _ p v (rw none (omega arith)) (rw none refl)
+halves q room (fin false m e) p h v =
     let S = q .scale in
     let k = q .bound in
-    let a = m * up e in
-    let B = down-pos e in
-    let g = and-both (not (s && ltb 0 a)) (ltb a (k * down e)) h in
-    let low = nothing s a (2 * S) (down e) B (g .0) in
-    let most : a * (2 * S) ≤ 2 * (k * S) * down e = bounded a (down e) S k (ltb-true a (k * down e) (g .1)) in
-    let top : a * (2 * S) < 2 ^ 64 * down e = lt-of-le-of-lt most (mul-lt-mul-of-pos-right (omega arith) B) in
-    let is = cut-is s (a * (2 * S)) (down e) B low top p v in
-    record {
-      above = cut-above s (a * (2 * S)) (down e) B low top p v;
-      below = cut-below s (a * (2 * S)) (down e) B low top p v;
-      small = rw is (quotient-le (a * (2 * S)) (down e) (2 * (k * S)) B most);
-      whole = rw is (rounded a S (down e) B);
-    }
+    let most : m * up e * (2 * S) ≤ 2 * (k * S) * down e = bounded (m * up e) (down e) S k (ltb-true (m * up e) (k * down e) h) in
+    let top : m * up e * (2 * S) < 2 ^ 64 * down e = lt-of-le-of-lt most (mul-lt-mul-of-pos-right (omega arith) (down-pos e)) in
+    cut false (m * up e * (2 * S)) (down e) (down-pos e) (λ t. absurd (false≢true t)) top q _ p v (quotient-le (m * up e * (2 * S)) (down e) (2 * (k * S)) (down-pos e) most) (rounded (m * up e) S (down e) (down-pos e))

@@ -1,7 +1,9 @@
 pub mod Whole
+pub mod FractionLaws
 pub mod WholeLaws
 pub mod Convert
 pub mod ConvertLaws
 pub mod Conditions
 pub mod RefusalLaws
+pub mod BelowZeroLaws
 pub mod Code

@@ -27,13 +27,13 @@ pub enum Converted {
     Refused(Refusal),
 }
 
-// What a float measures: in how many parts its unit is counted, and the bound that it stays below.
+// What a float measures: how many of its units make 1, and the bound that it stays below.
 struct Quantity {
     scale: u32,
     bound: u16,
 }
 
-// Document 01's "micro": parts of a coordinate's unit.
+// Document 01's "micro", a coordinate's unit: so many make 1.
 pub const MICRO: u32 = 1000000;
 
 // u, v, u', v', x or y.
@@ -62,13 +62,6 @@ fn is_finite(x: f32) -> bool
     (-infinity < x) & (x < infinity)
 }
 
-// Whether 0 <= x < bound.
-fn is_in_range(x: f32, quantity: Quantity) -> bool
-    ensures { λ r. ⌜ r ≡ inRange quantity x ⌝ }
-{
-    !(x < 0.0) & (x < quantity.bound as f32)
-}
-
 // x times n, exactly: x has at most 24 binary digits and n is at most 2^29, so that the product has no more than an f64's 53.
 fn exact_product(x: f32, n: u32) -> f64
     requires { ⌜ finite x ≡ true ⌝ }
@@ -78,7 +71,21 @@ fn exact_product(x: f32, n: u32) -> f64
     x as f64 * n as f64
 }
 
-// floor(x * scale + 1/2), as half of floor(2 * x * scale) + 1.
+// Whether x is above -1/2 of its unit, where it is below zero, and below its bound otherwise.
+fn is_in_range(x: f32, quantity: Quantity) -> bool
+    requires { ⌜ finite x ≡ true ⌝ }
+    requires { ⌜ quantity .scale ≤ 2 ^ 28 ⌝ }
+    requires { ⌜ 0 < quantity .bound ⌝ }
+    ensures { λ r. ⌜ r ≡ inRange quantity x ⌝ }
+{
+    if x < 0.0 {
+        -1.0 < exact_product(x, 2 * quantity.scale)
+    } else {
+        x < quantity.bound as f32
+    }
+}
+
+// floor(x * scale + 1/2), as half of one more than 2 * x * scale cut towards zero.
 fn to_whole(x: f32, quantity: Quantity) -> u32
     requires { ⌜ quantity .scale ≤ 2 ^ 28 ⌝ }
     requires { ⌜ quantity .bound * quantity .scale < 2 ^ 32 ⌝ }

@@ -1,4 +1,4 @@
--- `to_whole` meets its contract: the exact product is cut to a whole number of halves, and half of one more is the definition's quotient.
+-- `to_whole` meets its contract: the exact product is cut to a whole number of halves, and half of one more is the definition's.
 use borrow.Author.Needs.{needs}
 use mathlib.Core.Path.{ap, _∙_}
 use Prim.Native.Nat.{ℕ, _+_, _/_}
