@@ -147,6 +147,9 @@ ck_answer plain_read_micro(uint32_t u, uint32_t v, const uint32_t *edges, size_t
     return with_floats(plain_whole(u, v, edges, edge_count, max_steps));
 }
 
+/* Above -1/2 of a millionth and below 1; the product is exact. */
+static int in_range(float x) { return x < 0 ? (double)x * 2e6 > -1 : x < 1; }
+
 /* floor(x * 1,000,000 + 1/2): product and sum are exact in a double wherever they matter to the floor. */
 static uint64_t to_micro(float x) { return (uint64_t)((double)x * 1e6 + 0.5); }
 
@@ -160,7 +163,7 @@ static point point_over(uint64_t x, uint64_t y, uint64_t n) {
 ck_answer plain_read_xy(float x, float y, const uint32_t *edges, size_t edge_count, uint32_t max_steps) {
     if (!edges_valid(edges, edge_count)) return with_floats(refused(CK_BAD_EDGES));
     if (!isfinite(x) || !isfinite(y)) return with_floats(refused(CK_NOT_FINITE));
-    if (!(x >= 0 && x < 1 && y >= 0 && y < 1)) return with_floats(refused(CK_OUT_OF_RANGE));
+    if (!in_range(x) || !in_range(y)) return with_floats(refused(CK_OUT_OF_RANGE));
     uint64_t mx = to_micro(x), my = to_micro(y);
     return with_floats(answer(point_over(mx, my, 3000000 + 12 * my - 2 * mx), edges, edge_count, max_steps));
 }

@@ -6,9 +6,13 @@
 static const uint32_t edges[] = {1600, 2500, 3500, 5000, 20001}; /* class 0 is 1600 K to under 2500 K, and so on */
 
 static const char *const reasons[] = {
-    [CK_BAD_EDGES] = "the class edges break their rule",    [CK_NOT_FINITE] = "x or y is infinite or not a number",
-    [CK_OUT_OF_RANGE] = "x or y is not from 0 to under 1",  [CK_TOO_FAR] = "too far from the blackbody locus",
-    [CK_TOO_HOT] = "beyond the locus's 20,000 K end",       [CK_TOO_COOL] = "beyond the locus's 1600 K end"};
+    [CK_BAD_EDGES] = "the class edges break their rule",
+    [CK_NOT_FINITE] = "x or y is infinite or not a number",
+    [CK_OUT_OF_RANGE] = "x or y is not above -0.0000005 and below 1",
+    [CK_TOO_FAR] = "too far from the blackbody locus",
+    [CK_TOO_HOT] = "beyond the locus's 20,000 K end",
+    [CK_TOO_COOL] = "beyond the locus's 1600 K end",
+};
 
 int main(int argc, char **argv)
 {

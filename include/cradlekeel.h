@@ -17,7 +17,8 @@
  *
  * Owed by the caller of every function: `edges` points to `edge_count` numbers of 32 bits that can be read and that no
  * other thread writes during the call. With an `edge_count` of 0 nothing is read and `edges` may be NULL. The same is owed of
- * each other pointer with its count; the lists may overlap or be one.
+ * each other pointer with its count; the lists may overlap or be one. Floats round to nearest during the call, as they do
+ * unless the program has changed the rounding mode (fesetround and the like).
  */
 #ifndef CRADLEKEEL_H
 #define CRADLEKEEL_H
@@ -37,8 +38,8 @@ enum {
     CK_BAD_LENGTHS = 9,       /* spectral samples only: their four counts are not all equal, or are 0 or over 471 */
     CK_SAMPLE_TOO_LARGE = 10, /* spectral samples only: a sample over 16,777,215, or a number of a table over 4,000,000 */
     CK_NOT_FINITE = 2,        /* a float of the reading is infinite or not a number */
-    CK_OUT_OF_RANGE = 3,      /* a coordinate not in 0 <= x < 1, a tristimulus value not in 0 <= X < 4096, or a u or v in
-                                 millionths over 4,000,000 */
+    CK_OUT_OF_RANGE = 3,      /* a coordinate not in -0.0000005 < x < 1, a tristimulus value not in -0.000005 < X < 4096, or
+                                 a u or v in millionths over 4,000,000 */
     CK_TOO_DARK = 4,          /* tristimulus values: Y, rounded to 0.00001, is under 1; spectral samples: Y is 0 once X, Y and
                                  Z are divided as ck_read_samples says */
     CK_TOO_FAR = 5,           /* more than 0.030 in (u, v) from each of the 24 stored points of the blackbody locus */
@@ -73,21 +74,24 @@ typedef struct ck_answer {
  * more steps the bracket lies within the one before, `place` is no farther from the reading, and a class once named stays.
  * `place` is the nearest point that the search came by; it can lie outside the bracket [low, high].
  *
- * A float is rounded to a whole number of millionths (tristimulus values: of 0.00001), from its exact value, halves up. */
+ * A float is rounded to a whole number of millionths (tristimulus values: of 0.00001), from its exact value, halves up. One
+ * that is below zero but in its range counts as 0, as -0.0f does; 0 is too far from the locus as a coordinate or an X and too
+ * dark as a Y, and as a Z it may have an answer. -0.0000005f of coordinates and -0.000005f of tristimulus values are the lowest
+ * floats that are taken: they lie just inside the range, and no float is its limit. */
 
-/* CIE 1960 u, v, each 0 <= x < 1.
+/* CIE 1960 u, v, each -0.0000005 < x < 1.
  * Refusals: CK_BAD_EDGES, CK_NOT_FINITE, CK_OUT_OF_RANGE, CK_TOO_FAR, CK_TOO_HOT, CK_TOO_COOL. */
 ck_answer ck_read_uv(float u, float v, const uint32_t *edges, size_t edge_count, uint32_t max_steps);
 
-/* CIE 1976 u', v', each 0 <= x < 1; answered at u = u', v = 2v'/3.
+/* CIE 1976 u', v', each -0.0000005 < x < 1; answered at u = u', v = 2v'/3.
  * Refusals: CK_BAD_EDGES, CK_NOT_FINITE, CK_OUT_OF_RANGE, CK_TOO_FAR, CK_TOO_HOT, CK_TOO_COOL. */
 ck_answer ck_read_uvp(float u_prime, float v_prime, const uint32_t *edges, size_t edge_count, uint32_t max_steps);
 
-/* CIE 1931 x, y, each 0 <= x < 1; answered at u = 4x / (3 - 2x + 12y), v = 6y / (3 - 2x + 12y).
+/* CIE 1931 x, y, each -0.0000005 < x < 1; answered at u = 4x / (3 - 2x + 12y), v = 6y / (3 - 2x + 12y).
  * Refusals: CK_BAD_EDGES, CK_NOT_FINITE, CK_OUT_OF_RANGE, CK_TOO_FAR, CK_TOO_HOT, CK_TOO_COOL. */
 ck_answer ck_read_xy(float x, float y, const uint32_t *edges, size_t edge_count, uint32_t max_steps);
 
-/* Tristimulus values, each 0 <= X < 4096; answered at u = 4X / (X + 15Y + 3Z), v = 6Y / (X + 15Y + 3Z).
+/* Tristimulus values, each -0.000005 < X < 4096; answered at u = 4X / (X + 15Y + 3Z), v = 6Y / (X + 15Y + 3Z).
  * Refusals: CK_BAD_EDGES, CK_NOT_FINITE, CK_OUT_OF_RANGE, CK_TOO_DARK, CK_TOO_FAR, CK_TOO_HOT, CK_TOO_COOL. */
 ck_answer ck_read_xyz(float X, float Y, float Z, const uint32_t *edges, size_t edge_count, uint32_t max_steps);
 

@@ -10,9 +10,10 @@ variable CRADLEKEEL_LIBRARY names a library in another place. Only Python's stan
 whole program, and `python3 -m cradlekeel --help` names the commands of the package itself.
 
 The library takes single-precision floats. A Python float is a double, and it is rounded to the nearest single when it is
-handed over: 0.3127 is answered as 0.312700003385543823..., 0.99999999 becomes 1 and is refused, and 1e39 becomes an
-infinity. What then happens to the single is exact. `read_micro` and `read_samples` take whole numbers and round nothing;
-`read_spectrum` makes whole numbers of a meter's values, which is tested and not proved.
+handed over: 0.3127 is answered as 0.312700003385543823..., 0.99999999 becomes 1 and is refused, -0.0000005 becomes
+-0.000000499999998737..., which is in range and counts as 0, and 1e39 becomes an infinity. What then happens to the single is
+exact. `read_micro` and `read_samples` take whole numbers and round nothing; `read_spectrum` makes whole numbers of a meter's
+values, which is tested and not proved.
 
 A reading that has no answer raises `Refusal`. A whole number that does not fit 32 bits raises `ValueError`.
 """

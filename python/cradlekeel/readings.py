@@ -82,7 +82,7 @@ class Answer:
 
 
 def read_uv(u, v, edges=EDGES, steps=STEPS):
-    """The answer to CIE 1960 u and v, each 0 <= x < 1.
+    """The answer to CIE 1960 u and v, each -0.0000005 < x < 1; one below zero in that range counts as 0.
 
     >>> answer = read_uv(0.2193, 0.3271, steps=2)
     >>> answer.place, answer.low, answer.high, answer.duv, answer.class_index
@@ -92,7 +92,7 @@ def read_uv(u, v, edges=EDGES, steps=STEPS):
 
 
 def read_uv_prime(u_prime, v_prime, edges=EDGES, steps=STEPS):
-    """The answer to CIE 1976 u' and v', each 0 <= x < 1.
+    """The answer to CIE 1976 u' and v', each -0.0000005 < x < 1; one below zero in that range counts as 0.
 
     >>> answer = read_uv_prime(0.25, 0.5)
     >>> answer.place, answer.low, answer.high, answer.duv, answer.class_index
@@ -102,7 +102,7 @@ def read_uv_prime(u_prime, v_prime, edges=EDGES, steps=STEPS):
 
 
 def read_xy(x, y, edges=EDGES, steps=STEPS):
-    """The answer to CIE 1931 x and y, each 0 <= x < 1.
+    """The answer to CIE 1931 x and y, each -0.0000005 < x < 1; one below zero in that range counts as 0.
 
     >>> read_xy(0.3127, 0.3290, edges=(5000, 6000, 7000), steps=6).class_index
     1
@@ -115,10 +115,13 @@ def read_xy(x, y, edges=EDGES, steps=STEPS):
 
 
 def read_xyz(x, y, z, edges=EDGES, steps=STEPS):
-    """The answer to tristimulus values X, Y and Z, each 0 <= X < 4096; Y, rounded to 0.00001, is at least 1.
+    """The answer to tristimulus values X, Y and Z, each -0.000005 < X < 4096; one below zero in that range counts as 0. Y,
+    rounded to 0.00001, is at least 1.
 
     >>> round(read_xyz(100, 100, 100).kelvin)
     5451
+    >>> read_xyz(100, 100, -0.000001) == read_xyz(100, 100, 0)
+    True
     """
     return _read("ck_read_xyz", (x, y, z), edges, steps)
 
