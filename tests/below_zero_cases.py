@@ -29,7 +29,7 @@ def minus(value):
     return nearest_f32(-value)
 
 
-def hairs(quantity):
+def near_zero(quantity):
     """Floats about zero and about -1/2 of the unit, -2^-1 to -2^-149, and parts of the unit below zero."""
     last = LAST_TAKEN[quantity]
     found = list(range(last - 4, last + 6))
@@ -41,7 +41,7 @@ def hairs(quantity):
     return list(dict.fromkeys(found))
 
 
-def same_when_zero(quantity):
+def zeros(quantity):
     """Floats that all count as 0."""
     return 0, MINUS_ZERO, TINY_NEGATIVE, minus(Fraction(1, 4 * quantity[0])), LAST_TAKEN[quantity]
 
@@ -53,9 +53,9 @@ def with_float(everyday, places, at, bits):
 
 
 def in_each_place():
-    """Every float of `hairs` in every place of every kind, among everyday floats."""
+    """Every float of `near_zero` in every place of every kind, among everyday floats."""
     for kind, (quantity, everyday, places) in KINDS.items():
-        for at, bits in product(range(places), hairs(quantity)):
+        for at, bits in product(range(places), near_zero(quantity)):
             yield hex_line(kind, *with_float(everyday, places, at, bits))
 
 
@@ -83,7 +83,7 @@ def below_zero_by_chance(dice, count):
 
 def check_same(kind, quantity, patterns, at):
     """A reading converts to the same with each of the floats that count as 0."""
-    found = {ref.converted(kind, [*patterns[:at], bits, *patterns[at + 1:]]) for bits in same_when_zero(quantity)}
+    found = {ref.converted(kind, [*patterns[:at], bits, *patterns[at + 1:]]) for bits in zeros(quantity)}
     assert len(found) == 1, (kind, patterns, at, found)
 
 
@@ -93,7 +93,7 @@ def counted_as_zero(dice, count):
         for at in [k % places for k in range(count)]:
             patterns = [dice.between(nearest_f32(Fraction(1, 100)), nearest_f32(quantity[1]) - 1) for _ in range(places)]
             check_same(kind, quantity, patterns, at)
-            for patterns[at] in same_when_zero(quantity):
+            for patterns[at] in zeros(quantity):
                 yield hex_line(kind, *patterns)
 
 
@@ -103,9 +103,9 @@ def answers_without_blue():
     for u in range(246_000, 346_000, 9_000):
         x, y, _ = as_xyz(u, (4 * ref.MICRO - u) // 10)
         for allowance, edges in product((0, 3, 6, 14), (TEXT_EDGES, WIDE_EDGES)):
-            given = {ref.answer("xyz", (x, y, z), edges, allowance) for z in same_when_zero(ref.TRISTIMULUS)}
+            given = {ref.answer("xyz", (x, y, z), edges, allowance) for z in zeros(ref.TRISTIMULUS)}
             assert len(given) == 1 and given.pop().refusal == 0, (x, y, allowance)
-            for z in (*same_when_zero(ref.TRISTIMULUS), first_refused):
+            for z in (*zeros(ref.TRISTIMULUS), first_refused):
                 yield line("xyz", (x, y, z), allowance, edges)
         for z in (TINY_NEGATIVE, first_refused):
             yield line("xyz", (x, y, z), 14, (5000, 5000))
@@ -114,7 +114,7 @@ def answers_without_blue():
 def answers_of_each_kind():
     """Through every kind, with good edges and with bad ones: 1, 2, 3 and what comes after 3, an answer where Z counts as 0."""
     for kind, (quantity, everyday, places) in KINDS.items():
-        for at, bits in product(range(places), (*same_when_zero(quantity), LAST_TAKEN[quantity] + 1, NEGATIVE_INFINITY)):
+        for at, bits in product(range(places), (*zeros(quantity), LAST_TAKEN[quantity] + 1, NEGATIVE_INFINITY)):
             for edges in (TEXT_EDGES, (5000,)):
                 yield line(kind, with_float(everyday, places, at, bits), 14, edges)
 

@@ -54,18 +54,18 @@ pub below-zero-floor : (q : Quantity) (x : Float) (a b c : ℕ) → 0 < b → Ha
 below-zero-floor q x a b c B v h = below-zero-whole q x a b v ∙ sym (div-eq-of-lt (omega arith))
 
 -- +0 in place of a float that is in range with a minus sign
-abbrev pub raised : Quantity → Float → Float
-raised q nan = nan
-raised q (inf s) = inf s
-raised q (fin true m e) = cond (inRange q (fin true m e)) (fin false 0 (pos 0)) (fin true m e)
-raised q (fin false m e) = fin false m e
+abbrev pub zeroed : Quantity → Float → Float
+zeroed q nan = nan
+zeroed q (inf s) = inf s
+zeroed q (fin true m e) = cond (inRange q (fin true m e)) (fin false 0 (pos 0)) (fin true m e)
+zeroed q (fin false m e) = fin false m e
 
 -- a reading with every such float replaced
-abbrev pub raisedReading : Reading → Reading
-raisedReading (Uv u v) = Uv (raised coordinate u) (raised coordinate v)
-raisedReading (UvPrime u v) = UvPrime (raised coordinate u) (raised coordinate v)
-raisedReading (Xy x y) = Xy (raised coordinate x) (raised coordinate y)
-raisedReading (Xyz x y z) = Xyz (raised tristimulus x) (raised tristimulus y) (raised tristimulus z)
+abbrev pub zeroedReading : Reading → Reading
+zeroedReading (Uv u v) = Uv (zeroed coordinate u) (zeroed coordinate v)
+zeroedReading (UvPrime u v) = UvPrime (zeroed coordinate u) (zeroed coordinate v)
+zeroedReading (Xy x y) = Xy (zeroed coordinate x) (zeroed coordinate y)
+zeroedReading (Xyz x y z) = Xyz (zeroed tristimulus x) (zeroed tristimulus y) (zeroed tristimulus z)
 
 -- all that a conversion asks of a float
 record Alike (q : Quantity) (x y : Float) : Type 0 where
@@ -76,12 +76,12 @@ record Alike (q : Quantity) (x y : Float) : Type 0 where
 alike-itself : (q : Quantity) (x : Float) → Alike q x x
 alike-itself q x = record { finite-same = refl; range-same = refl; whole-same = refl }
 
-raised-alike : (q : Quantity) (x : Float) → 0 < q .bound → Alike q (raised q x) x
+zeroed-alike : (q : Quantity) (x : Float) → 0 < q .bound → Alike q (zeroed q x) x
 unfolding inRange toWhole
-raised-alike q nan h = alike-itself q nan
-raised-alike q (inf s) h = alike-itself q (inf s)
-raised-alike q (fin false m e) h = alike-itself q (fin false m e)
-raised-alike q (fin true m e) h = go (inRange q (fin true m e)) refl
+zeroed-alike q nan h = alike-itself q nan
+zeroed-alike q (inf s) h = alike-itself q (inf s)
+zeroed-alike q (fin false m e) h = alike-itself q (fin false m e)
+zeroed-alike q (fin true m e) h = go (inRange q (fin true m e)) refl
   where
     go : (t : Bool) → inRange q (fin true m e) ≡ t → Alike q (cond t (fin false 0 (pos 0)) (fin true m e)) (fin true m e)
     go true t = record {
@@ -91,25 +91,28 @@ raised-alike q (fin true m e) h = go (inRange q (fin true m e)) refl
     }
     go false t = alike-itself q (fin true m e)
 
-coordinates-alike : (rule : ℕ → ℕ → Converted) {x y a b : Float} → Alike coordinate x a → Alike coordinate y b → ofCoordinates rule x y ≡ ofCoordinates rule a b
+coordinates-zeroed : (rule : ℕ → ℕ → Converted) (x y : Float) → ofCoordinates rule (zeroed coordinate x) (zeroed coordinate y) ≡ ofCoordinates rule x y
 unfolding ofCoordinates
-coordinates-alike rule h k = rw (h .finite-same, h .range-same, h .whole-same, k .finite-same, k .range-same, k .whole-same) refl
+coordinates-zeroed rule x y =
+    let h = zeroed-alike coordinate x (lit< tt) in
+    let k = zeroed-alike coordinate y (lit< tt) in
+    rw (h .finite-same, h .range-same, h .whole-same, k .finite-same, k .range-same, k .whole-same) refl
 
 -- a reading converts to the same with +0 in place of the floats below zero that are in range
-pub raised-converts : (r : Reading) → convertReading (raisedReading r) ≡ convertReading r
+pub zeroed-converts : (r : Reading) → convertReading (zeroedReading r) ≡ convertReading r
 unfolding convertReading ofTristimulus
-raised-converts (Uv u v) = coordinates-alike ofUv (raised-alike coordinate u (lit< tt)) (raised-alike coordinate v (lit< tt))
-raised-converts (UvPrime u v) = coordinates-alike ofUvPrime (raised-alike coordinate u (lit< tt)) (raised-alike coordinate v (lit< tt))
-raised-converts (Xy x y) = coordinates-alike ofXy (raised-alike coordinate x (lit< tt)) (raised-alike coordinate y (lit< tt))
-raised-converts (Xyz x y z) =
-    let g = raised-alike tristimulus x (lit< tt) in
-    let h = raised-alike tristimulus y (lit< tt) in
-    let k = raised-alike tristimulus z (lit< tt) in
+zeroed-converts (Uv u v) = coordinates-zeroed ofUv u v
+zeroed-converts (UvPrime u v) = coordinates-zeroed ofUvPrime u v
+zeroed-converts (Xy x y) = coordinates-zeroed ofXy x y
+zeroed-converts (Xyz x y z) =
+    let g = zeroed-alike tristimulus x (lit< tt) in
+    let h = zeroed-alike tristimulus y (lit< tt) in
+    let k = zeroed-alike tristimulus z (lit< tt) in
     rw (g .finite-same, g .range-same, g .whole-same, h .finite-same, h .range-same, h .whole-same, k .finite-same, k .range-same, k .whole-same) refl
 
 -- so two readings that differ only in such floats convert to the same
-pub below-zero-is-zero : (r s : Reading) → raisedReading r ≡ raisedReading s → convertReading r ≡ convertReading s
-below-zero-is-zero r s e = sym (raised-converts r) ∙ ap convertReading e ∙ raised-converts s
+pub below-zero-is-zero : (r s : Reading) → zeroedReading r ≡ zeroedReading s → convertReading r ≡ convertReading s
+below-zero-is-zero r s e = sym (zeroed-converts r) ∙ ap convertReading e ∙ zeroed-converts s
 
 -- the last floats taken and the first refused, by their bits: b50637bd and b50637be, b6a7c5ac and b6a7c5ad
 pub last-taken : (inRange coordinate (ofBits binary32 3037083581) ≡ true) × (inRange tristimulus (ofBits binary32 3064448428) ≡ true)
