@@ -1,5 +1,5 @@
 -- How far a 32-bit number is from zero, through the casts that the code makes: to 64 bits, negated, to unsigned.
-use mathlib.Core.Path.{_≡_, refl, ap, subst⁻¹, _∙_}
+use mathlib.Core.Path.{_≡_, ap, subst⁻¹, _∙_}
 use mathlib.Core.Bool.{true, false, true≢false}
 use Prim.Native.Nat.{zero, suc, _≤_}
 use native.Mathlib.Omega.{arith}
@@ -11,6 +11,7 @@ use mir.Syntax.{w32, w64}
 use mir.Val.{SFits, Fits}
 use mir.Facts.{sfits-widen, fits-natAbs}
 use Rattle.arith.specs.SignedLaws.{read, back}
+use Rattle.arith.specs.IntegerLaws.{abs-minus}
 
 -- z through the two casts: widened to 64 bits, and negated there
 abbrev wide : ℤ → ℤ
@@ -23,11 +24,6 @@ mag-neg : (z : ℤ) → mag (negℤ z) ≤ suc (mag z)
 mag-neg (pos zero) = omega arith
 mag-neg (pos (suc n)) = omega arith
 mag-neg (negsuc n) = omega arith
-
-abs-neg : (z : ℤ) → natAbs (negℤ z) ≡ natAbs z
-abs-neg (pos zero) = refl
-abs-neg (pos (suc n)) = refl
-abs-neg (negsuc n) = refl
 
 neg-up : (z : ℤ) → ltZ z (pos 0) ≡ true → T (nonNeg (negℤ z))
 neg-up (pos zero) h = tt
@@ -58,10 +54,10 @@ module _ {z : ℤ} (fits : SFits w32 z) where
   abs-fits = fits-natAbs tt fits
 
   pub down : ltZ (read w32 z) (pos 0) ≡ true → T (nonNeg (negated z)) × Fits w32 (natAbs (negated z))
-  down h = rw (negated-is, abs-neg) (neg-up z (rw (back fits) at h), abs-fits)
+  down h = rw (negated-is, abs-minus) (neg-up z (rw (back fits) at h), abs-fits)
 
   pub size-neg : natAbs (negated z) ≡ natAbs z
-  size-neg = ap natAbs negated-is ∙ abs-neg z
+  size-neg = ap natAbs negated-is ∙ abs-minus z
 
   pub size-pos : natAbs (read w32 z) ≡ natAbs z
   size-pos = ap natAbs (back fits)

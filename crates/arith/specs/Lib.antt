@@ -8,4 +8,5 @@ pub mod LeastLaws
 pub mod Every
 pub mod EveryLaws
 pub mod TestLaws
+pub mod IntegerLaws
 pub mod SignedLaws

@@ -1,2 +1,3 @@
 mod Squares
+mod Curves
 mod Admitting

@@ -5,5 +5,6 @@ pub mod StoredLaws
 pub mod LocusLaws
 pub mod AdmissionLaws
 pub mod BehindLaws
+pub mod CurveLaws
 pub mod PieceLaws
 pub mod Code

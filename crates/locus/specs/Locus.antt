@@ -1,5 +1,7 @@
--- The locus at every place, and the distance of a reading from it (document 01, "The stored locus" and "The search").
-use Prim.Native.Nat.{ℕ, _+_, _-_, _*_, _/_, min}
+-- The locus at every place, and the distance of a reading from it (document 01, "The stored locus" and "The search";
+-- document 02, No. 3).
+use Prim.Native.Nat.{ℕ, _+_, _-_, _*_, _/_, min, max}
+use lib.IntN.{ℤ, pos, natAbs, _+ℤ_, _-ℤ_, _*ℤ_}
 use Rattle.arith.specs.Rounding.{nearestQuotient}
 use Rattle.locus.specs.Stored.{entryU, entryV, pieceLength, entryPlace}
 use Rattle.locus.specs.declared.Chromaticity.{Chromaticity}
@@ -8,14 +10,35 @@ use Rattle.locus.specs.declared.Chromaticity.{Chromaticity}
 abbrev pub pieceOf : ℕ → ℕ
 pieceOf place = min 23 (place / pieceLength - 1)
 
--- one coordinate of the locus, t places past entry i: straight from entry i to entry i + 1, rounded to nearest, halves up.
--- The argument `entry` gives that coordinate of each entry
-unfoldable pub between : (ℕ → ℕ) → ℕ → ℕ → ℕ
-between entry i t = nearestQuotient (entry i * (pieceLength - t) + entry (i + 1) * t) pieceLength
+-- the first of the four entries that piece i goes through: i − 1 to i + 2, but 1 to 4 for the first piece and 21 to 24 for the last
+abbrev pub firstOfFour : ℕ → ℕ
+firstOfFour i = min 21 (max 1 (i - 1))
 
--- one coordinate of the locus at a place from the first to the last
+-- a coordinate of the locus is an exact fraction over this
+abbrev pub denominator : ℕ
+denominator = 6 * pieceLength * pieceLength * pieceLength
+
+-- `denominator` times the cubic that is w, x, y and z at 0, 1, 2 and 3 lengths of a piece, at s places. This is Lagrange's form: beside each value
+-- stand the factors that are 0 where the other three are. `cubic-only` in LocusLaws proves that there is no other such cubic
+abbrev pub cubic : ℕ → ℕ → ℕ → ℕ → ℕ → ℤ
+cubic w x y z s =
+    let a : ℤ = pos s in
+    let b : ℤ = pos s -ℤ pos pieceLength in
+    let c : ℤ = pos s -ℤ pos (2 * pieceLength) in
+    let d : ℤ = pos s -ℤ pos (3 * pieceLength) in
+    pos z *ℤ (a *ℤ b *ℤ c) -ℤ pos (3 * y) *ℤ (a *ℤ b *ℤ d) +ℤ pos (3 * x) *ℤ (a *ℤ c *ℤ d) -ℤ pos w *ℤ (b *ℤ c *ℤ d)
+
+-- one coordinate of piece i at a place, times `denominator`: the cubic in the place through the piece's four entries. The argument
+-- `entry` gives that coordinate of each entry
+unfoldable pub between : (ℕ → ℕ) → ℕ → ℕ → ℤ
+between entry i place =
+    let k : ℕ = firstOfFour i in
+    cubic (entry k) (entry (k + 1)) (entry (k + 2)) (entry (k + 3)) (place - entryPlace k)
+
+-- one coordinate of the locus at a place from the first to the last: that fraction rounded once to nearest, halves up. None is below 0 on
+-- the locus (`not-below` in PieceLaws), so that no sign is lost
 unfoldable pub locusAt : (ℕ → ℕ) → ℕ → ℕ
-locusAt entry place = between entry (pieceOf place) (place - entryPlace (pieceOf place))
+locusAt entry place = nearestQuotient (natAbs (between entry (pieceOf place) place)) denominator
 
 -- u and v of the locus at a place
 abbrev pub locusU : ℕ → ℕ

@@ -3,20 +3,33 @@ mod tables;
 
 use refusal::Refusal;
 ghost use mathlib.Core.Path.{_≡_};
-ghost use Prim.Native.Nat.{_+_, _-_, _*_, _≤_, _<_};
-ghost use Rattle.locus.specs.Stored.{tableU, tableV, storedPoint, firstPlace, lastPlace, firstEntry, lastEntry};
-ghost use Rattle.locus.specs.Locus.{locusPoint, difference, squaredDistance, distanceAt};
+ghost use Prim.Native.Nat.{_+_, _*_, _≤_, _<_, min, max};
+ghost use lib.IntN.{pos, natAbs, _-ℤ_};
+ghost use Rattle.arith.specs.Units.{micro};
+ghost use Rattle.locus.specs.Stored.{tableU, tableV, entryIn, storedPoint, pieceLength, firstPlace, lastPlace, firstEntry, lastEntry};
+ghost use Rattle.locus.specs.Locus.{firstOfFour, locusPoint, difference, squaredDistance, distanceAt};
 ghost use Rattle.locus.specs.Admission.{dot, behind, admission};
 ghost use Rattle.locus.specs.Code.Bounds.{farOut};
-ghost use Rattle.locus.specs.Code.Pieces.{lineThrough, lineAt, pieceFrom, spanAbout, pieceAt, AboutAnEntry};
-ghost use Rattle.locus.specs.Code.Lines.{Rises, LineFits};
+ghost use Rattle.locus.specs.Code.Pieces.{thirdOf, thirdOfPiece, curveThrough, curveAbout, thirdAt, curveAt, middleEntry, spanAbout, AboutAnEntry};
+ghost use Rattle.locus.specs.Code.Curves.{Steady, CurveFits};
 ghost use Rattle.locus.specs.Code.NearestSoFar.{nearestOf};
 
 // The places from one entry to the next. One place is document 01's "notch".
 pub const PIECE_LENGTH: u32 = 2584;
 
-// Half of a piece's length.
-const HALF_PIECE: u32 = 1292;
+// A coordinate of the locus is a fraction over this: 6 times the cube of a piece's length.
+const DENOMINATOR: u64 = 6 * 2584 * 2584 * 2584;
+
+// Half of the denominator.
+const HALF: u64 = DENOMINATOR / 2;
+
+// The square of a piece's length.
+const PIECE_SQUARED: i64 = 2584 * 2584;
+
+// Three times that square, and three times a piece's length.
+const THREE_SQUARES: i64 = 3 * PIECE_SQUARED;
+
+const THREE_PIECES: i64 = 3 * 2584;
 
 // A point with a coordinate over this is too far from every entry.
 const FAR_OUT: u32 = 4000000;
@@ -50,59 +63,130 @@ pub fn table_v() -> [u32; 24]
     tables::TABLE_V
 }
 
+// The coordinate of entry i, from 1 to 24, in a table of one coordinate.
+fn coordinate(table: &[u32; 24], i: usize) -> u32
+    requires { ⌜ (1 ≤ i) × (i ≤ 24) ⌝ }
+    ensures { λ r. ⌜ r ≡ entryIn (now (table .entry)) i ⌝ }
+{
+    table[i - 1]
+}
+
 // Entry i, from 1 to 24.
 fn stored_point(us: &[u32; 24], vs: &[u32; 24], i: usize) -> Chromaticity
     requires { ⌜ (now us ≡ tableU) × (now vs ≡ tableV) × (1 ≤ i) × (i ≤ 24) ⌝ }
     ensures { λ r. ⌜ r ≡ storedPoint i ⌝ }
 {
     Chromaticity {
-        u: us[i - 1],
-        v: vs[i - 1],
+        u: coordinate(us, i),
+        v: coordinate(vs, i),
     }
 }
 
-// One coordinate of a straight piece of the locus: at a place it is (c + d * place) / PIECE_LENGTH.
-struct Line {
-    c: u32,
-    d: u32,
-}
-
-// A piece of the locus, from one entry to the next.
-struct Piece {
-    u: Line,
-    v: Line,
-}
-
-// The line from x at entry i to y at entry i + 1. Half a piece is added in c, so that the division rounds to nearest, halves up.
-fn line_through(x: u32, y: u32, i: u32) -> Line
-    requires { ⌜ (i ≤ 23) × Rises i x y ⌝ }
-    ensures { λ r. ⌜ r ≡ lineThrough i x y ⌝ }
+// x - y with its sign.
+fn signed_difference(x: u32, y: u32) -> i64
+    ensures { λ r. ⌜ r ≡ pos x -ℤ pos y ⌝ }
 {
-    let d = y - x;
-    Line {
-        c: PIECE_LENGTH * x + HALF_PIECE - d * (PIECE_LENGTH * (i + 1)),
-        d: d,
+    x as i64 - y as i64
+}
+
+// One coordinate of the locus on both sides of a middle entry. At t places past that entry it is
+// (a + t * (b + t * c + (t * t - PIECE_SQUARED) * d)) / DENOMINATOR, where d is `left` before the entry and `right` from it on.
+// The quadratic goes through the entry and its two neighbours, where the rest is 0; the half that rounds is in a.
+struct Curve {
+    a: i64,
+    b: i64,
+    c: i64,
+    left: i64,
+    right: i64,
+}
+
+// The third difference of four neighbouring coordinates.
+fn third_of(w: u32, x: u32, y: u32, z: u32) -> i64
+    requires { ⌜ (w ≤ micro) × (x ≤ micro) × (y ≤ micro) × (z ≤ micro) ⌝ }
+    ensures { λ r. ⌜ r ≡ thirdOf w x y z ⌝ }
+{
+    signed_difference(z + 3 * x, 3 * y + w)
+}
+
+// The number from low to high that is nearest to x.
+fn clamped(low: u32, x: u32, high: u32) -> u32
+    requires { ⌜ low ≤ high ⌝ }
+    ensures { λ r. ⌜ r ≡ min high (max low x) ⌝ }
+{
+    if high < x {
+        return high;
+    }
+    if x < low { low } else { x }
+}
+
+// The first of the four entries that piece i goes through.
+fn first_of_four(i: u32) -> u32
+    requires { ⌜ (1 ≤ i) × (i ≤ 23) ⌝ }
+    ensures { λ r. ⌜ r ≡ firstOfFour i ⌝ }
+{
+    clamped(1, i - 1, 21)
+}
+
+// The third difference of the four entries that piece i goes through.
+fn third_of_piece(table: &[u32; 24], i: u32) -> i64
+    requires { ⌜ Steady (now table) × (1 ≤ i) × (i ≤ 23) ⌝ }
+    ensures { λ r. ⌜ r ≡ thirdOfPiece (entryIn (now (table .entry))) i ⌝ }
+{
+    let k = first_of_four(i) as usize;
+    let w = coordinate(table, k);
+    let x = coordinate(table, k + 1);
+    let y = coordinate(table, k + 2);
+    let z = coordinate(table, k + 3);
+    third_of(w, x, y, z)
+}
+
+// The curve through x, y and z at a middle entry's neighbour before it, itself and its neighbour after it.
+fn curve_through(x: u32, y: u32, z: u32, left: i64, right: i64) -> Curve
+    requires { ⌜ (x ≤ micro) × (y ≤ micro) × (z ≤ micro) ⌝ }
+    ensures { λ r. ⌜ r ≡ curveThrough x y z left right ⌝ }
+{
+    let a = (DENOMINATOR * y as u64 + HALF) as i64;
+    let b = THREE_SQUARES * signed_difference(z, x);
+    let c = THREE_PIECES * signed_difference(z + x, 2 * y);
+    Curve {
+        a: a,
+        b: b,
+        c: c,
+        left: left,
+        right: right,
     }
 }
 
-// The coordinate that a line gives at a place.
-fn on_line(line: Line, place: u32) -> u32
-    requires { ⌜ LineFits line × (place ≤ lastPlace) ⌝ }
-    ensures { λ r. ⌜ r ≡ lineAt line place ⌝ }
+// The curve about entry m, from 2 to 23.
+fn curve_about(table: &[u32; 24], m: u32) -> Curve
+    requires { ⌜ Steady (now table) × (2 ≤ m) × (m ≤ 23) ⌝ }
+    ensures { λ r. ⌜ r ≡ curveAbout (entryIn (now (table .entry))) m ⌝ }
 {
-    (line.c + line.d * place) / PIECE_LENGTH
+    let i = m as usize;
+    let x = coordinate(table, i - 1);
+    let y = coordinate(table, i);
+    let z = coordinate(table, i + 1);
+    let left = third_of_piece(table, m - 1);
+    let right = third_of_piece(table, m);
+    curve_through(x, y, z, left, right)
 }
 
-// Piece i, from entry i to entry i + 1.
-fn piece_from(us: &[u32; 24], vs: &[u32; 24], i: u32) -> Piece
-    requires { ⌜ (now us ≡ tableU) × (now vs ≡ tableV) × (1 ≤ i) × (i ≤ 23) ⌝ }
-    ensures { λ r. ⌜ r ≡ pieceFrom i ⌝ }
+// The third difference that a curve has t places past its middle entry.
+fn third_at(curve: Curve, t: i64) -> i64
+    ensures { λ r. ⌜ r ≡ thirdAt curve t ⌝ }
 {
-    let a = stored_point(us, vs, i as usize);
-    let b = stored_point(us, vs, i as usize + 1);
-    let u = line_through(a.u, b.u, i);
-    let v = line_through(a.v, b.v, i);
-    Piece { u: u, v: v }
+    if t < 0 { curve.left } else { curve.right }
+}
+
+// The coordinate that a curve gives t places past its middle entry.
+fn on_curve(curve: Curve, t: i64) -> u32
+    requires { ⌜ CurveFits curve × (natAbs t ≤ pieceLength) ⌝ }
+    ensures { λ r. ⌜ r ≡ curveAt curve t ⌝ }
+{
+    let d = third_at(curve, t);
+    let s = t * t - PIECE_SQUARED;
+    let n = curve.a + t * (curve.b + t * curve.c + s * d);
+    (n as u64 / DENOMINATOR) as u32
 }
 
 // The square of the difference of two numbers.
@@ -110,7 +194,7 @@ fn squared_difference(x: u32, y: u32) -> u64
     requires { ⌜ (x ≤ farOut) × (y ≤ farOut) ⌝ }
     ensures { λ r. ⌜ r ≡ difference x y * difference x y ⌝ }
 {
-    let d = x as i64 - y as i64;
+    let d = signed_difference(x, y);
     (d * d) as u64
 }
 
@@ -217,13 +301,13 @@ pub fn admit(us: &[u32; 24], vs: &[u32; 24], u: u32, v: u32) -> Admission
     admit_near(us, vs, u, v)
 }
 
-// The two pieces about an entry: left from the place `from` to `mid`, right from there to `to`.
+// The locus from the place `from` to the place `to`, by the places past the middle entry, which stands at `mid`.
 pub struct Span {
     pub from: u32,
     mid: u32,
     pub to: u32,
-    left: Piece,
-    right: Piece,
+    u: Curve,
+    v: Curve,
 }
 
 // The first entry of the bracket about entry m.
@@ -242,33 +326,29 @@ fn last_entry(m: u32) -> u32
     if m < 24 { m + 1 } else { 24 }
 }
 
-// The pieces about entry m. About the first and the last entry, the one piece stands twice.
+// The middle entry of the span about entry m: m itself, but 2 for the first entry and 23 for the last.
+fn middle_entry(m: u32) -> u32
+    requires { ⌜ (1 ≤ m) × (m ≤ 24) ⌝ }
+    ensures { λ r. ⌜ r ≡ middleEntry m ⌝ }
+{
+    clamped(2, m, 23)
+}
+
+// The locus about entry m.
 pub fn span_about(us: &[u32; 24], vs: &[u32; 24], m: u32) -> Span
     requires { ⌜ (now us ≡ tableU) × (now vs ≡ tableV) × (1 ≤ m) × (m ≤ 24) ⌝ }
     ensures answers { λ r. ⌜ r ≡ spanAbout m ⌝ }
     ensures unchanged { λ r. ⌜ (now (us .exit) ≡ now (us .entry)) × (now (vs .exit) ≡ now (vs .entry)) ⌝ }
 {
-    let a = first_entry(m);
-    let b = last_entry(m) - 1;
-    let left = piece_from(us, vs, a);
-    let right = piece_from(us, vs, b);
+    let middle = middle_entry(m);
+    let u = curve_about(us, middle);
+    let v = curve_about(vs, middle);
     Span {
-        from: PIECE_LENGTH * (a + 1),
-        mid: PIECE_LENGTH * (a + 2),
-        to: PIECE_LENGTH * (b + 2),
-        left: left,
-        right: right,
-    }
-}
-
-// The piece of a span that holds a place.
-fn piece_at(span: Span, place: u32) -> Piece
-    ensures { λ r. ⌜ r ≡ pieceAt span place ⌝ }
-{
-    if place < span.mid {
-        span.left
-    } else {
-        span.right
+        from: PIECE_LENGTH * (first_entry(m) + 1),
+        mid: PIECE_LENGTH * (middle + 1),
+        to: PIECE_LENGTH * (last_entry(m) + 1),
+        u: u,
+        v: v,
     }
 }
 
@@ -277,9 +357,9 @@ pub fn point_on(span: Span, place: u32) -> Chromaticity
     requires { ⌜ AboutAnEntry span × (span .from ≤ place) × (place ≤ span .to) ⌝ }
     ensures { λ r. ⌜ r ≡ locusPoint place ⌝ }
 {
-    let piece = piece_at(span, place);
-    let u = on_line(piece.u, place);
-    let v = on_line(piece.v, place);
+    let t = signed_difference(place, span.mid);
+    let u = on_curve(span.u, t);
+    let v = on_curve(span.v, t);
     Chromaticity { u: u, v: v }
 }
 

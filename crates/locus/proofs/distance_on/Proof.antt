@@ -1,9 +1,7 @@
 -- The point of the locus at the place has small coordinates; the distance is that from it.
 use mathlib.Core.Path.{refl, _∙_}
-use native.Mathlib.Omega.{arith}
 use Rattle.locus.specs.Locus.{distanceAt}
-use Rattle.locus.specs.LocusLaws.{point-small}
-use Rattle.locus.specs.PieceLaws.{span-range}
+use Rattle.locus.specs.PieceLaws.{span-follows, follows-small}
 use borrow.Author.Needs.{needs}
 use Rattle.locus.proofs.distance_on.Statement.{statement}
 use Rattle.locus.proofs.distance_on.Tie as tie
@@ -13,7 +11,8 @@ point-on-requires c κs = search needs
 
 squared-distance-requires : tie.Need-squared-distance-requires
 squared-distance-requires c κs = let p = c .before .pre in
-    omega (arith, p, point-small (c .before .args .place) _ (c .point-on .ensures) (omega (arith, p, span-range (p .0))))
+    let l = follows-small (span-follows (p .0) (p .3) (p .4)) in
+    rw (c .point-on .ensures) (p .1, p .2, l .0, l .1)
 
 returns : tie.Need-returns
 unfolding distanceAt

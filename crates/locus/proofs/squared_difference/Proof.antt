@@ -1,30 +1,21 @@
 -- The square of the signed difference is that of the difference without its sign.
-use mathlib.Core.Path.{ap}
-use lib.IntN.{natAbs}
-use native.Mathlib.Omega.{arith}
-use Rattle.locus.specs.LocusLaws.{square-small}
-use Rattle.locus.proofs.Squares.{difference-fits, product-fits, squared}
+use Rattle.arith.specs.SignedLaws.{kept-fits}
+use Rattle.locus.proofs.Squares.{square-kept, square-whole, square-is}
 use borrow.Author.Needs.{needs}
 use Rattle.locus.proofs.squared_difference.Statement.{statement}
 use Rattle.locus.proofs.squared_difference.Tie as tie
 
-cast-d : tie.Need-cast-d
-cast-d c = search needs
-
-cast-d-2 : tie.Need-cast-d-2
-cast-d-2 c = search needs
-
-sub-d : tie.Need-sub-d
-sub-d c = difference-fits (c .args .x) (c .args .y) (c .pre .0) (c .pre .1)
+signed-difference-requires : tie.Need-signed-difference-requires
+signed-difference-requires c κs = search needs
 
 mul-result : tie.Need-mul-result
-mul-result c = product-fits (c .args .x) (c .args .y) (c .pre .0) (c .pre .1)
+mul-result c = let b = c .before in kept-fits (square-kept (b .args .x) (b .args .y) (b .pre .0) (b .pre .1) (c .signed-difference .ensures)) tt
 
 cast-result : tie.Need-cast-result
-cast-result c = rw (squared (c .args .x) (c .args .y) (c .pre .0) (c .pre .1)) (tt, record { fits = omega (arith, square-small (c .args .x) (c .args .y) (c .pre .0) (c .pre .1)) })
+cast-result c = let b = c .before in square-whole (b .args .x) (b .args .y) (b .pre .0) (b .pre .1) (c .signed-difference .ensures)
 
 returns : tie.Need-returns
-returns c = ap natAbs (squared (c .args .x) (c .args .y) (c .pre .0) (c .pre .1))
+returns c = let b = c .before in square-is (b .args .x) (b .args .y) (b .pre .0) (b .pre .1) (c .signed-difference .ensures)
 
 pub squared-difference-spec : {M : Type 1} → statement M
-squared-difference-spec = tie.close (tie.spec cast-d cast-d-2 sub-d mul-result cast-result returns)
+squared-difference-spec = tie.close (tie.spec signed-difference-requires mul-result cast-result returns)

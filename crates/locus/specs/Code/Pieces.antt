@@ -1,44 +1,70 @@
--- The locus of `Locus` as the code holds it: a line for each coordinate of a piece, and the two pieces about an entry. `PieceLaws` proves
--- that they give the same locus at every place (document 01, "The stored locus", and rule 2 of "The search").
+-- The locus of `Locus` as the code holds it. The cubics of the two pieces that meet at an entry both go through that entry and its two
+-- neighbours, so they are one quadratic through these three and a multiple of the one cubic that is 0 at them. `PieceLaws` proves that they
+-- give the same locus at every place (document 02, No. 3, and rule 2 of "The search").
 use mathlib.Core.Path.{_≡_}
 use mathlib.Core.Bool.{cond}
-use Prim.Native.Nat.{ℕ, _+_, _-_, _*_, _/_, _≤_}
-use lib.Dec.{ltb}
+use Prim.Native.Nat.{ℕ, _+_, _-_, _*_, _/_, _≤_, min, max}
+use lib.IntN.{ℤ, pos, natAbs, _+ℤ_, _-ℤ_, _*ℤ_}
+use lib.Signed.{ltZ}
 use Rattle.locus.specs.Stored.{entryU, entryV, pieceLength, entryPlace, firstEntry, lastEntry}
-use Rattle.locus.specs.declared.Line.{Line}
-use Rattle.locus.specs.declared.Piece.{Piece}
+use Rattle.locus.specs.Locus.{firstOfFour, denominator}
+use Rattle.locus.specs.declared.Curve.{Curve}
 use Rattle.locus.specs.declared.Span.{Span}
 
--- half of a piece's length, which makes the division round to nearest, halves up
-abbrev pub halfPiece : ℕ
-halfPiece = 1292
+-- half of the denominator, which makes the division round to nearest, halves up
+abbrev pub half : ℕ
+half = 3 * pieceLength * pieceLength * pieceLength
 
--- the line from x at entry i to y at entry i + 1
-abbrev pub lineThrough : ℕ → ℕ → ℕ → Line
-lineThrough i x y = record { c = pieceLength * x + halfPiece - (y - x) * entryPlace i; d = y - x }
+-- the third difference of four neighbouring coordinates, z − 3y + 3x − w
+unfoldable pub thirdOf : ℕ → ℕ → ℕ → ℕ → ℤ
+thirdOf w x y z = pos (z + 3 * x) -ℤ pos (3 * y + w)
 
--- what a line gives at a place
-abbrev pub lineAt : Line → ℕ → ℕ
-lineAt line place = (line .c + line .d * place) / pieceLength
+-- that of the four entries that piece i goes through
+unfoldable pub thirdOfPiece : (ℕ → ℕ) → ℕ → ℤ
+thirdOfPiece entry i = let k : ℕ = firstOfFour i in thirdOf (entry k) (entry (k + 1)) (entry (k + 2)) (entry (k + 3))
 
--- piece i, from entry i to entry i + 1
-unfoldable pub pieceFrom : ℕ → Piece
-pieceFrom i = record { u = lineThrough i (entryU i) (entryU (i + 1)); v = lineThrough i (entryV i) (entryV (i + 1)) }
+-- the curve through x, y and z at a middle entry's neighbour before it, itself and its neighbour after it, times the denominator, with half
+-- of that added
+abbrev pub curveThrough : ℕ → ℕ → ℕ → ℤ → ℤ → Curve
+curveThrough x y z l r =
+    record {
+      a = pos (denominator * y + half);
+      b = pos (3 * pieceLength * pieceLength) *ℤ (pos z -ℤ pos x);
+      c = pos (3 * pieceLength) *ℤ (pos (z + x) -ℤ pos (2 * y));
+      left = l;
+      right = r;
+    }
 
--- rule 2: the two pieces of the bracket about entry m; about the first and the last entry the one piece stands twice
+-- the curve about entry m, with the third differences of the pieces that end and start there
+unfoldable pub curveAbout : (ℕ → ℕ) → ℕ → Curve
+curveAbout entry m = curveThrough (entry (m - 1)) (entry m) (entry (m + 1)) (thirdOfPiece entry (m - 1)) (thirdOfPiece entry m)
+
+-- the third difference that a curve has t places past its middle entry
+abbrev pub thirdAt : Curve → ℤ → ℤ
+thirdAt curve t = cond (ltZ t (pos 0)) (curve .left) (curve .right)
+
+-- the cubic with the numbers a, b and c of a curve and the third difference d, t places past the middle entry
+unfoldable pub numerator : ℤ → ℤ → ℤ → ℤ → ℤ → ℤ
+numerator a b c d t = a +ℤ t *ℤ (b +ℤ t *ℤ c +ℤ (t *ℤ t -ℤ pos (pieceLength * pieceLength)) *ℤ d)
+
+-- what a curve gives t places past its middle entry
+abbrev pub curveAt : Curve → ℤ → ℕ
+curveAt curve t = natAbs (numerator (curve .a) (curve .b) (curve .c) (thirdAt curve t) t) / denominator
+
+-- the middle entry of the span about entry m, by which its places are counted
+abbrev pub middleEntry : ℕ → ℕ
+middleEntry m = min 23 (max 2 m)
+
+-- rule 2: the locus over the bracket about entry m
 unfoldable pub spanAbout : ℕ → Span
 spanAbout m =
     record {
       from = entryPlace (firstEntry m);
-      mid = entryPlace (firstEntry m + 1);
+      mid = entryPlace (middleEntry m);
       to = entryPlace (lastEntry m);
-      left = pieceFrom (firstEntry m);
-      right = pieceFrom (lastEntry m - 1);
+      u = curveAbout entryU (middleEntry m);
+      v = curveAbout entryV (middleEntry m);
     }
-
--- the piece of a span that holds a place
-abbrev pub pieceAt : Span → ℕ → Piece
-pieceAt span place = cond (ltb place (span .mid)) (span .left) (span .right)
 
 -- a span is that about one of the 24 entries
 pub record AboutAnEntry (span : Span) : Type 0 where
