@@ -1,16 +1,18 @@
-"""Document 01's own cases, typed in from the document and never from a program's output: the listing, the (P) cases
-and the "Also run" list; and cases of document 02's No. 1 and 2, worked out by hand. `check()` holds the reference to them all."""
+"""Document 01's own cases, typed in from the document and never from our program's output: the listing, the (P) cases and the
+"Also run" list; and cases of document 02's No. 1 to 3, worked out by hand. `check()` holds the reference to them all."""
 
 from fractions import Fraction
+from itertools import product
 
 import reference as ref
 from floats import NEGATIVE_INFINITY, QUIET_NAN, nearest_f32
 
+# Lines 3 and 4 look between entries, so that their Duv moved with document 02's No. 3.
 LISTING = (
     ("255910 349510 0", "0 36176 33592 38760 0 0 1"),
     ("219300 327100 0", "0 23256 20672 25840 -2347 0 -"),
-    ("219300 327100 2", "0 23112 21892 23866 -2311 2 2"),
-    ("341150 360520 0", "0 62626 59432 64600 2069 0 0"),
+    ("219300 327100 2", "0 23112 21892 23866 -2331 2 2"),
+    ("341150 360520 0", "0 62626 59432 64600 -2061 0 0"),
     ("345070 330530 0", "0 64600 62016 64600 -30000 0 0"),
     ("345070 330529 0", "5"),
     ("183000 276000", "6"),
@@ -55,6 +57,16 @@ BELOW_ZERO = (
     ("xyz", ("1", "-1/262144", "1"), 4),  # Y counts as 0
     ("xyz", ("1", "-1/131072", "1"), 3),
     ("xy", ("-inf", "-1/2097152"), 2),
+)
+
+# A place, and u and v there as fractions and in whole micro. With a, b, c, d for the four entries, the middle of b and c is
+# (9b + 9c - a - d)/16, and a quarter of the way (105b + 35c - 7a - 5d)/128; the middle of the first piece is
+# (5a + 15b - 5c + d)/16, and that of the last (a - 5b + 15c + 5d)/16.
+CURVE = (
+    (6460, ("185210.625", "281065"), (185211, 281065)),  # the middle of the first piece
+    (10982, ("191320.625", "295352.5"), (191321, 295353)),  # a quarter of the way from entry 3 to entry 4
+    (32300, ("243987.5", "344882.5"), (243988, 344883)),  # the middle of entries 11 and 12
+    (63308, ("341161.25", "360532.5"), (341161, 360533)),  # the middle of the last piece, where v is above both its ends
 )
 
 # samples, x_bar, y_bar, z_bar; then u and v, or the refusal's number.
@@ -129,6 +141,23 @@ def check_stored_locus():
     assert all(ref.locus_point(ref.entry_place(i)) == ref.entry_point(i) for i in ref.ENTRIES)
 
 
+def check_curve():
+    for place, exact, whole in CURVE:
+        found = ref.exact_point(place), ref.locus_point(place)
+        assert found == ([Fraction(text) for text in exact], whole), (place, exact, whole, found)
+
+
+def check_cubics():
+    """What makes a curve the cubic through four entries: it meets each of them, and its fourth differences are zero."""
+    assert [ref.entries_of(piece)[0] for piece in ref.ENTRIES[:-1]] == [1, *range(1, 22), 21]
+    for piece, coordinate in product(ref.ENTRIES[:-1], (0, 1)):
+        entries = ref.entries_of(piece)
+        curve = lambda place: ref.on_curve(entries, coordinate, ref.mired_at(place))
+        assert all(curve(ref.entry_place(i)) == ref.entry_point(i)[coordinate] for i in entries), piece
+        spaced = [curve(ref.entry_place(piece) + 646 * k) for k in range(5)]
+        assert sum(weight * value for weight, value in zip((1, -4, 6, -4, 1), spaced)) == 0, piece
+
+
 def check():
     check_conversions()
     check_listing()
@@ -137,3 +166,5 @@ def check():
     check_spectra()
     check_allowances()
     check_stored_locus()
+    check_curve()
+    check_cubics()

@@ -1,9 +1,10 @@
-"""The rules of document 01, and of requests No. 1 and 2 of document 02, in exact whole numbers and fractions: the independent
+"""The rules of document 01, and of requests No. 1 to 3 of document 02, in exact whole numbers and fractions: the independent
 second program.
 
 It follows the documents' own words, letters and sections and shares no code with the crates. Where a rule can be said in
-another way than there, it is: the locus goes by mired, the bracket by its three cases, the nearest point seen by all points
-seen, the class by the kelvin of each place, the power of two of a spectrum by trying one after the other.
+another way than there, it is: the locus goes by mired and by Newton's divided differences, the bracket by its three cases, the
+nearest point seen by all points seen, the class by the kelvin of each place, the power of two of a spectrum by trying one after
+the other.
 """
 
 import re
@@ -201,16 +202,47 @@ def entry_point(i):
     return 10 * u, 10 * v
 
 
+def piece_of(place):
+    """The i of the piece from entry i to entry i + 1 that holds a place; an entry, but for the last, is in the piece that it begins."""
+    return max(i for i in ENTRIES[:-1] if entry_place(i) <= place)
+
+
+def entries_of(piece):
+    """The four entries that a piece's cubic goes through (document 02, No. 3)."""
+    if piece == 1:
+        return 1, 2, 3, 4
+    if piece == 23:
+        return 21, 22, 23, 24
+    return piece - 1, piece, piece + 1, piece + 2
+
+
+@lru_cache(maxsize=None)
+def divided_difference(entries, coordinate):
+    """Newton's divided difference of u (0) or v (1) by mired over some entries."""
+    if len(entries) == 1:
+        return Fraction(entry_point(entries[0])[coordinate])
+    rise = divided_difference(entries[1:], coordinate) - divided_difference(entries[:-1], coordinate)
+    return rise / (STORED[entries[-1]][0] - STORED[entries[0]][0])
+
+
+def on_curve(entries, coordinate, mired):
+    """The polynomial in mired through some entries, by Newton's form, exactly."""
+    value = Fraction(0)
+    for k in reversed(range(len(entries))):
+        value = value * (mired - STORED[entries[k]][0]) + divided_difference(entries[:k + 1], coordinate)
+    return value
+
+
+def exact_point(place):
+    """u and v in micro as fractions; the cubic in mired is the cubic in the place, since one is a multiple of the other."""
+    entries = entries_of(piece_of(place))
+    return [on_curve(entries, coordinate, mired_at(place)) for coordinate in (0, 1)]
+
+
 @lru_cache(maxsize=None)
 def locus_point(place):
-    """u and v in micro: straight in mired between the two entries that enclose the place, each rounded once."""
-    mired = mired_at(place)
-    left = max(i for i in ENTRIES if STORED[i][0] <= mired)
-    right = min(i for i in ENTRIES if STORED[i][0] >= mired)
-    if left == right:
-        return entry_point(left)
-    share = (mired - STORED[left][0]) / (STORED[right][0] - STORED[left][0])
-    return tuple(rounded(x + share * (y - x)) for x, y in zip(entry_point(left), entry_point(right)))
+    """u and v in whole micro, each rounded once."""
+    return tuple(rounded(exact) for exact in exact_point(place))
 
 
 def squared_distance(p, q):

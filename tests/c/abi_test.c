@@ -302,8 +302,8 @@ static void listing(void) {
     show(shown, sizeof shown, a);
     for (int words = 0; words < 7; words++) end = strchr(end, ' ') + 1;
     end[-1] = '\0';
-    if (strcmp(shown, "0 23112 21892 23866 -2311 2 2") != 0) fail("219300 327100 2", shown);
-    if (a.kelvin != 103360000.0 / 23112 || a.duv != -2311 / 1e6) fail("219300 327100 2", "the doubles");
+    if (strcmp(shown, "0 23112 21892 23866 -2331 2 2") != 0) fail("219300 327100 2", shown);
+    if (a.kelvin != 103360000.0 / 23112 || a.duv != -2331 / 1e6) fail("219300 327100 2", "the doubles");
     expect_refused(ck_read_micro(345070, 330529, edges, GOOD_COUNT, 0), CK_TOO_FAR, "345070 330529 0");
     expect_refused(ck_read_micro(183000, 276000, edges, GOOD_COUNT, 14), CK_TOO_HOT, "183000 276000");
     expect_refused(ck_read_micro(346000, 360540, edges, GOOD_COUNT, 14), CK_TOO_COOL, "346000 360540");
