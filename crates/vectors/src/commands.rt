@@ -11,6 +11,8 @@ use crate::samples;
 // The command words, by their ASCII bytes.
 const POINT: u64 = 0x706f696e74;
 
+const POINTS: u64 = 0x706f696e7473;
+
 const ENTRY: u64 = 0x656e747279;
 
 const SEARCH: u64 = 0x736561726368;
@@ -36,6 +38,7 @@ fn run(
 ) -> usize {
     match command {
         POINT => parts::point(values[0], out, at),
+        POINTS => parts::points(values[0], values[1], out, at),
         ENTRY => parts::entry(values[0], values[1], out, at),
         SEARCH => parts::search(values[0], values[1], values[2], out, at),
         CLASS => parts::class(values, count, out, at),

@@ -3,7 +3,7 @@ use crate::fields;
 use crate::put;
 use locus::Admission;
 use search::Search;
-ghost use Prim.Native.Nat.{_≤_};
+ghost use Prim.Native.Nat.{_≤_, _<_};
 
 // A place of the locus: the number itself, or the nearer end.
 fn on_locus(place: u32) -> u32
@@ -25,6 +25,31 @@ pub(crate) fn point(place: u32, out: &mut [u8; 65536], at: usize) -> usize {
     let point = locus::point_at(&us, &vs, on_locus(place));
     let first = put::number(out, at, point.u as u64);
     put::last(out, first, point.v as u64)
+}
+
+// A checksum with one more number.
+fn with_number(sum: u64, n: u32) -> u64
+    requires { ⌜ sum < 4294967291 ⌝ }
+    ensures { λ r. ⌜ r < 4294967291 ⌝ }
+{
+    (sum * 1000003 + n as u64) % 4294967291
+}
+
+// `count checksum` of u and v of the locus at each place from one to another, both taken.
+pub(crate) fn points(from: u32, to: u32, out: &mut [u8; 65536], at: usize) -> usize {
+    let us = locus::table_u();
+    let vs = locus::table_v();
+    let first = on_locus(from);
+    let last = on_locus(to);
+    let mut place = first;
+    let mut sum: u64 = 0;
+    while place <= last {
+        let point = locus::point_at(&us, &vs, place);
+        sum = with_number(with_number(sum, point.u), point.v);
+        place += 1;
+    }
+    let second = put::number(out, at, (place - first) as u64);
+    put::last(out, second, sum)
 }
 
 // `m distance` of the nearest entry, or the refusal's number alone.
