@@ -10,8 +10,8 @@ from core_cases import edge_lists, edges_about, edges_around, rising_edges, spoi
 from dice import Dice
 from floats import NEGATIVE_INFINITY, QUIET_NAN, nearest_f32
 from hard_floats import DARK, LIMIT_4096, MINUS_ONE, ONE
-from readings import (AS_FLOATS, admitted, as_xyz, at_the_limit, behind_an_end, best_outside, comparisons, entry_ties,
-                      looks, near_locus, search_ties)
+from readings import (AS_FLOATS, about_piece, admitted, as_xyz, at_the_limit, behind_an_end, best_outside, comparisons, entry_ties,
+                      level_ties, looks, near_locus, search_ties)
 
 LARGEST_U32 = 2**32 - 1
 ALLOWANCES = tuple(range(16)) + (100, 2**31, LARGEST_U32)
@@ -85,6 +85,24 @@ def end_lines(dice):
         for reading in behind_an_end(m, other, 40):
             for kind in ("whole", "uvp"):
                 yield through(kind, reading, dice.pick(ALLOWANCES), any_edges(dice))
+
+
+def entry_lines(dice):
+    """Both sides of each entry, where the cubic changes: on the locus, and a unit or more off it."""
+    for i, aside in product(ref.ENTRIES, (-40, -3, -2, -1, 0, 1, 2, 3, 40)):
+        place = ref.entry_place(i) + aside
+        if ref.FIRST_PLACE <= place <= ref.LAST_PLACE:
+            u, v = ref.locus_point(place)
+            for off in (0, dice.pick((-1, 1)), dice.pick((-500, 500))):
+                yield through(dice.pick(("whole", "uv", "uvp")), (u, v + off), dice.pick((0, 2, 9, 13, 14)), any_edges(dice))
+
+
+def piece_lines(dice):
+    """Every piece, the two at the ends more often: in the last v rises to its top and falls again."""
+    readings = [about_piece(dice, i) for i in ref.ENTRIES[:-1] for _ in range(80 if i in (1, 23) else 8)]
+    for reading in readings + level_ties(dice, 60):
+        for kind in ("whole", "uv"):
+            yield through(kind, reading, dice.pick((0, 1, 2, 3, 7, 14)), any_edges(dice))
 
 
 def tie_lines(dice):
@@ -168,6 +186,7 @@ def refusal_pair_lines(dice):
 def refinement_readings(dice):
     """Readings of every kind for demand 3, hard ones among them, refused ones too."""
     hard = search_ties(dice, comparisons, 12) + search_ties(dice, looks, 10) + best_outside(dice, 10) + entry_ties(dice, 6)
+    hard += [about_piece(dice, i) for i in (1, 2, 22, 23) for _ in range(2)] + level_ties(dice, 5)
     hard += [admitted(dice) for _ in range(40)] + [(183_000, 276_000), (345_070, 330_530), (345_070, 330_529)]
     for k, reading in enumerate(hard):
         yield ("whole", "uv", "uvp", "xy", "xyz")[k % 5], reading
@@ -202,8 +221,8 @@ def refinement_lines(dice):
             yield line(kind, args, allowance, edges)
 
 
-SECTIONS = (document_lines, near_lines, far_lines, limit_lines, end_lines, tie_lines, outside_lines, tight_edge_lines,
-            exact_edge_lines, edge_list_lines, refusal_pair_lines, refinement_lines)
+SECTIONS = (document_lines, near_lines, far_lines, limit_lines, end_lines, entry_lines, piece_lines, tie_lines, outside_lines,
+            tight_edge_lines, exact_edge_lines, edge_list_lines, refusal_pair_lines, refinement_lines)
 
 
 def lines():

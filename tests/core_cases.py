@@ -1,22 +1,42 @@
-"""Vectors for the parts of the search: `point`, `entry`, `search`, `class` and `edges`."""
+"""Vectors for the parts of the search: `point`, `points`, `entry`, `search`, `class` and `edges`."""
 
+from fractions import Fraction
 from itertools import product
 from math import floor
 
 import reference as ref
 from dice import Dice
-from readings import admitted, at_the_limit, behind_an_end, best_outside, comparisons, entry_ties, looks, search_ties
+from readings import (PLACES, about_piece, admitted, at_the_limit, behind_an_end, best_outside, comparisons, entry_ties, level_ties,
+                      looks, search_ties)
 
-ON_EDGES = [place for place in range(ref.FIRST_PLACE, ref.LAST_PLACE + 1) if ref.kelvin_at(place).denominator == 1]
+ON_EDGES = [place for place in PLACES if ref.kelvin_at(place).denominator == 1]
+RUN = 100  # places to a line `points`
+NEAREST_TO_A_HALF = 100
+MULTIPLIER, MODULUS = 1_000_003, 4_294_967_291  # the checksum's; the modulus is 2^32 - 5, a prime
+
+
+def off_a_half(place):
+    """How far u or v at a place, before it is rounded, is from a half: the lesser of the two."""
+    return min(abs(exact % 1 - Fraction(1, 2)) for exact in ref.exact_point(place))
+
+
+def point_places():
+    """Every 37th place and the last; the entries, and the places whose rounding is hardest, exact halves first, with their neighbours."""
+    hardest = sorted(PLACES, key=off_a_half)[:NEAREST_TO_A_HALF]
+    assert off_a_half(hardest[0]) == 0
+    about = {place + k for place in (*map(ref.entry_place, ref.ENTRIES), *hardest) for k in (-1, 0, 1)}
+    return sorted(about & set(PLACES) | set(PLACES[::37]) | {ref.LAST_PLACE})
 
 
 def point_lines(dice):
-    """Every 7th place, both ends, and each entry with its neighbours: the rounding of the straight pieces."""
-    places = set(range(ref.FIRST_PLACE, ref.LAST_PLACE + 1, 7)) | {ref.LAST_PLACE}
-    for i in ref.ENTRIES:
-        places |= {ref.entry_place(i) + k for k in (-1, 0, 1)}
-    for place in sorted(places & set(range(ref.FIRST_PLACE, ref.LAST_PLACE + 1))):
+    for place in point_places():
         yield "point %d" % place
+
+
+def points_lines(dice):
+    """Every place once, in short runs, so that a difference is located."""
+    for first in PLACES[::RUN]:
+        yield "points %d %d" % (first, min(first + RUN - 1, ref.LAST_PLACE))
 
 
 def entry_lines(dice):
@@ -31,8 +51,9 @@ def entry_lines(dice):
 
 
 def search_readings(dice):
-    """Plain readings, equal inner points, a point as near as the nearest seen, and a nearest point outside the bracket."""
-    readings = [admitted(dice) for _ in range(150)]
+    """Plain readings, both end pieces, equal inner points, a point as near as the nearest seen, and a nearest point outside the bracket."""
+    readings = [admitted(dice) for _ in range(150)] + [about_piece(dice, i) for i in (1, 23) for _ in range(30)]
+    readings += level_ties(dice, 40)
     readings += search_ties(dice, comparisons, 150) + search_ties(dice, looks, 100) + best_outside(dice, 60)
     readings += [reading for reading in entry_ties(dice, 60) if ref.squared_distance(
         reading, ref.entry_point(ref.nearest_entry(reading))) <= ref.FARTHEST]
@@ -122,7 +143,7 @@ def edges_lines(dice):
 
 def lines():
     dice = Dice("core")
-    for section in (point_lines, entry_lines, search_lines, class_lines, edges_lines):
+    for section in (point_lines, points_lines, entry_lines, search_lines, class_lines, edges_lines):
         yield from section(dice)
 
 
@@ -135,12 +156,28 @@ def expected_entry(reading):
     return "%d %d" % (m, ref.squared_distance(reading, ref.entry_point(m)))
 
 
+def checksum(numbers):
+    """A sum that one wrong number always changes, and so do two neighbours that are swapped."""
+    total = 0
+    for number in numbers:
+        total = (total * MULTIPLIER + number) % MODULUS
+    return total
+
+
+def expected_points(first, last):
+    """How many places there are, and the checksum of u and v at each in turn."""
+    places = range(first, last + 1)
+    return "%d %d" % (len(places), checksum(number for place in places for number in ref.locus_point(place)))
+
+
 def expected(line):
     """The expected line of any of these kinds."""
     kind, *fields = line.split()
     numbers = [int(field) for field in fields]
     if kind == "point":
         return "%d %d" % ref.locus_point(numbers[0])
+    if kind == "points":
+        return expected_points(*numbers)
     if kind == "entry":
         return expected_entry(tuple(numbers))
     if kind == "search":

@@ -7,6 +7,7 @@ import reference as ref
 from floats import nearest_f32
 
 LIMIT_RADIUS = 30_000
+PLACES = range(ref.FIRST_PLACE, ref.LAST_PLACE + 1)
 
 
 def is_admitted(reading):
@@ -129,8 +130,30 @@ def search_ties(dice, pairs, count):
     return found
 
 
+def about_piece(dice, i):
+    """A reading about the piece from entry i to entry i + 1: on the locus, or beside it and above or below."""
+    while True:
+        u, v = ref.locus_point(dice.between(ref.entry_place(i), ref.entry_place(i + 1)))
+        reading = u + dice.pick((0, 0, 1, -1)), v + dice.pick((0, 0, 1, -1, 2, -2, 4, -4, 300, -300))
+        if is_admitted(reading):
+            return reading
+
+
+def level_ties(dice, count):
+    """Readings midway between two inner points of equal v, as the last piece has them, where v rises to its top and falls again."""
+    found = []
+    while len(found) < count:
+        reading = about_piece(dice, 23)
+        points = [(ref.locus_point(a), ref.locus_point(b)) for a, b in comparisons(reading)]
+        level = [(p, q) for p, q in points if p != q and p[1] == q[1]]
+        moved = equally_far(*dice.pick(level), reading) if level else None
+        if moved and is_admitted(moved) and has_tie(moved, comparisons):
+            found.append(moved)
+    return found
+
+
 def square_to_an_entry(dice):
-    """A reading nearly square to the locus at an entry, where two straight pieces meet at an angle."""
+    """A reading nearly square to the locus at an entry, where the cubics of two pieces meet, a little at an angle."""
     i = dice.between(2, 23)
     (u, v), before, after = ref.entry_point(i), ref.entry_point(i - 1), ref.entry_point(i + 1)
     du, dv = after[0] - before[0], after[1] - before[1]

@@ -5,8 +5,8 @@ from itertools import product
 import document_cases
 import reference as ref
 from dice import Dice
-from readings import (admitted, at_the_limit, behind_an_end, best_outside, comparisons, entry_ties, is_admitted, looks,
-                      near_locus, search_ties)
+from readings import (about_piece, admitted, at_the_limit, behind_an_end, best_outside, comparisons, entry_ties, is_admitted,
+                      level_ties, looks, near_locus, search_ties)
 
 GOOD = b"219300 327100 2"
 
@@ -89,9 +89,10 @@ def duv_values(dice):
 
 
 def hard_readings(dice):
-    """Ties, limits, both ends and a nearest point outside the bracket, as lines of two and of three numbers."""
+    """Ties, limits, both ends, each piece and a nearest point outside the bracket, as lines of two and of three numbers."""
     readings = list(at_the_limit()) + entry_ties(dice, 120) + search_ties(dice, comparisons, 120) + search_ties(dice, looks, 80)
     readings += best_outside(dice, 60) + list(behind_an_end(1, 2, 15)) + list(behind_an_end(24, 23, 15))
+    readings += [about_piece(dice, i) for i in ref.ENTRIES[:-1]] + level_ties(dice, 20)
     for reading in readings:
         yield as_line(*reading)
         yield as_line(*reading, dice.below(16))

@@ -8,7 +8,7 @@ import sample_cases
 from sample_lists import Lists, held_after
 
 SECTIONS = (convert_cases, core_cases, answer_cases, sample_cases, below_zero_cases)
-CORE_KINDS = ("point", "entry", "search", "class", "edges")
+CORE_KINDS = ("point", "points", "entry", "search", "class", "edges")
 
 
 def kind_of(line):
