@@ -3,9 +3,10 @@
     python3 tests/check_wrong_rules.py      the rules that are caught, how many, and the names of those that are not
 
 The first six are the mistakes that document 01 warns of; the others are near misses that its rules, and those of document 02,
-leave room for. Those of spectral samples are tried on the vectors of samples, those of the text program on the first lines of its
-committed input, then on more, and at last on all of it, and the others on the other vectors. A wrong rule with which the reference
-cannot go on shows nothing, and ends the check."""
+leave room for. Those of spectral samples are tried on the vectors of samples, those of the locus on the vectors of places and of the
+search, those of the text program on the first lines of its committed input, then on more, and at last on all of it, and the others
+on the vectors of neither samples nor places. A wrong rule with which the reference cannot go on shows nothing, and ends the
+check."""
 
 import re
 import sys
@@ -13,7 +14,7 @@ from collections import Counter
 from contextlib import contextmanager
 from fractions import Fraction
 from itertools import zip_longest
-from math import ceil, isqrt
+from math import isqrt
 from pathlib import Path
 
 sys.dont_write_bytecode = True
@@ -26,6 +27,7 @@ from floats import exact_value, is_finite
 from hard_floats import single_precision_product
 from sample_lists import Lists, changes
 from wrong_below_zero_rules import WRONG_BELOW_ZERO_RULES
+from wrong_locus_rules import WRONG_LOCUS_RULES, halves_down
 from wrong_sample_rules import WRONG_SAMPLE_RULES
 
 CRATES = Path(__file__).resolve().parent.parent / "crates"
@@ -90,10 +92,6 @@ def range_of_the_whole_number(patterns, quantity):
     if not all(0 <= number < quantity[0] * quantity[1] for number in numbers):
         raise ref.Refused(ref.OUT_OF_RANGE)
     return numbers
-
-
-def halves_down(value):
-    return ceil(value - Fraction(1, 2))
 
 
 def highest_of_equal_entries(reading):
@@ -200,17 +198,27 @@ WRONG_TEXT_RULES = (
 )
 
 
+def forget():
+    """Nothing that the reference has worked out before is used again."""
+    for item in vars(ref).values():
+        if hasattr(item, "cache_clear"):
+            item.cache_clear()
+
+
 @contextmanager
 def put_in(name, wrong):
     """The reference with one wrong rule."""
     right = getattr(ref, name)
     setattr(ref, name, wrong)
-    ref.locus_point.cache_clear()
+    forget()
     try:
         yield
     finally:
         setattr(ref, name, right)
-        ref.locus_point.cache_clear()
+        forget()
+
+
+PLACE_KINDS = ("point", "points")
 
 
 def is_of_samples(line):
@@ -226,6 +234,11 @@ def shown(line, held):
 def first_caught(committed):
     """The first vector whose answer changes."""
     return next((shown(line, held) for line, held, answer in committed if vectors.expected(line, held) != answer), None)
+
+
+def of_kinds(committed, holds):
+    """The vectors for whose kind `holds` is true."""
+    return [vector for vector in committed if holds(vectors.kind_of(vector[0]))]
 
 
 def first_caught_text(texts):
@@ -274,16 +287,18 @@ def missed_of(rules, shown_by):
 
 def main():
     committed, texts = committed_vectors(), committed_texts()
-    of_samples = [vector for vector in committed if is_of_samples(vector[0])]
-    others = [vector for vector in committed if not is_of_samples(vector[0])]
+    of_samples = of_kinds(committed, lambda kind: kind in sample_cases.KINDS)
+    of_locus = of_kinds(committed, lambda kind: kind in (*PLACE_KINDS, "search"))
+    others = of_kinds(committed, lambda kind: kind not in (*PLACE_KINDS, *sample_cases.KINDS))
     assert first_caught_text(texts) is None, "the right rules give another output"
     assert first_caught(of_samples) is None, "the right rules give another answer"
     missed = missed_of(WRONG_RULES + WRONG_BELOW_ZERO_RULES, lambda: first_caught(others))
+    missed += missed_of(WRONG_LOCUS_RULES, lambda: first_caught(of_locus))
     missed += missed_of(WRONG_SAMPLE_RULES, lambda: first_caught(of_samples))
     missed += missed_of(WRONG_TEXT_RULES, lambda: first_caught_text(texts))
     if missed:
         sys.exit("check_wrong_rules: not caught: " + ", ".join(missed))
-    count = len(WRONG_RULES + WRONG_BELOW_ZERO_RULES + WRONG_SAMPLE_RULES + WRONG_TEXT_RULES)
+    count = len(WRONG_RULES + WRONG_BELOW_ZERO_RULES + WRONG_LOCUS_RULES + WRONG_SAMPLE_RULES + WRONG_TEXT_RULES)
     print("check_wrong_rules: all %d wrong rules are caught" % count)
 
 

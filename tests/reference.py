@@ -227,8 +227,8 @@ def divided_difference(entries, coordinate):
 
 def on_curve(entries, coordinate, mired):
     """The polynomial in mired through some entries, by Newton's form, exactly."""
-    value = Fraction(0)
-    for k in reversed(range(len(entries))):
+    value = divided_difference(entries, coordinate)
+    for k in reversed(range(len(entries) - 1)):
         value = value * (mired - STORED[entries[k]][0]) + divided_difference(entries[:k + 1], coordinate)
     return value
 
