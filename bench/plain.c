@@ -1,6 +1,6 @@
-/* The rules of document 01, and those of document 02 for spectral samples, in plain C, written for the benchmark from the
- * documents as a C programmer would write them for speed: constant tables, 32-bit products where they fit, distances carried
- * from step to step, the machine's square root, the sums and limits of samples in one pass. */
+/* The rules of document 01, and those of document 02 for spectral samples and for the curve between entries, in plain C, written
+ * for the benchmark from the documents as a C programmer would write them for speed: constant tables, one curve for both sides of an
+ * entry, distances carried from step to step, the machine's square root, the sums and limits of samples in one pass. */
 #include "plain.h"
 
 #include <math.h>
@@ -26,21 +26,66 @@ static uint32_t entry_place(uint32_t k) { return PIECE * (k + 2); }
 
 static point entry_point(uint32_t k) { return (point){TABLE_U[k], TABLE_V[k]}; }
 
-/* The locus at a place: on the straight line between two entries, to the nearest whole number, halves up. */
-static point locus_point(uint32_t place) {
-    uint32_t k = place / PIECE - 2;
-    if (k > ENTRIES - 2) k = ENTRIES - 2;
-    uint32_t along = place - entry_place(k), left = PIECE - along;
-    return (point){(TABLE_U[k] * left + TABLE_U[k + 1] * along + PIECE / 2) / PIECE,
-                   (TABLE_V[k] * left + TABLE_V[k + 1] * along + PIECE / 2) / PIECE};
+/* The curve about an entry, at t places past it, times 6 * 2584^3, with half of that added: a + t (b + t c + (t^2 - 2584^2) third).
+ * The cubics on the two sides share the quadratic through the entry and its neighbours, and differ in the third difference only. */
+typedef struct {
+    int64_t a, b, c, third[2]; /* the third differences before and after the entry */
+} curve;
+
+typedef struct {
+    curve u, v;
+} curves;
+
+#define SCALE (6LL * PIECE * PIECE * PIECE)
+#define THIRD(w, x, y, z) ((z) - 3LL * (y) + 3LL * (x) - (w))
+/* About the middle one of five entries. */
+#define CURVE(w, x, y, z, next)                                                                           \
+    {SCALE * (y) + SCALE / 2, 3LL * PIECE * PIECE * ((z) - (x)), 3LL * PIECE * ((z) - 2LL * (y) + (x)), \
+     {THIRD(w, x, y, z), THIRD(x, y, z, next)}}
+
+/* About the second entry to the last but one. The first number of the first row and the last of the last are no entries: they
+ * continue the cubic through the first four entries, and that through the last four. */
+static const curves CURVES[ENTRIES - 2] = {
+    {CURVE(181720, 183870, 186730, 190310, 194620), CURVE(269820, 277150, 285090, 293300, 301440)},
+    {CURVE(183870, 186730, 190310, 194620, 199620), CURVE(277150, 285090, 293300, 301440, 309230)},
+    {CURVE(186730, 190310, 194620, 199620, 205240), CURVE(285090, 293300, 301440, 309230, 316490)},
+    {CURVE(190310, 194620, 199620, 205240, 211420), CURVE(293300, 301440, 309230, 316490, 323130)},
+    {CURVE(194620, 199620, 205240, 211420, 218070), CURVE(301440, 309230, 316490, 323130, 329100)},
+    {CURVE(199620, 205240, 211420, 218070, 225110), CURVE(309230, 316490, 323130, 329100, 334400)},
+    {CURVE(205240, 211420, 218070, 225110, 232470), CURVE(316490, 323130, 329100, 334400, 339040)},
+    {CURVE(211420, 218070, 225110, 232470, 240100), CURVE(323130, 329100, 334400, 339040, 343080)},
+    {CURVE(218070, 225110, 232470, 240100, 247920), CURVE(329100, 334400, 339040, 343080, 346550)},
+    {CURVE(225110, 232470, 240100, 247920, 255910), CURVE(334400, 339040, 343080, 346550, 349510)},
+    {CURVE(232470, 240100, 247920, 255910, 264000), CURVE(339040, 343080, 346550, 349510, 352000)},
+    {CURVE(240100, 247920, 255910, 264000, 272170), CURVE(343080, 346550, 349510, 352000, 354070)},
+    {CURVE(247920, 255910, 264000, 272170, 280390), CURVE(346550, 349510, 352000, 354070, 355770)},
+    {CURVE(255910, 264000, 272170, 280390, 288620), CURVE(349510, 352000, 354070, 355770, 357140)},
+    {CURVE(264000, 272170, 280390, 288620, 296850), CURVE(352000, 354070, 355770, 357140, 358230)},
+    {CURVE(272170, 280390, 288620, 296850, 305040), CURVE(354070, 355770, 357140, 358230, 359070)},
+    {CURVE(280390, 288620, 296850, 305040, 313190), CURVE(355770, 357140, 358230, 359070, 359680)},
+    {CURVE(288620, 296850, 305040, 313190, 321280), CURVE(357140, 358230, 359070, 359680, 360120)},
+    {CURVE(296850, 305040, 313190, 321280, 329300), CURVE(358230, 359070, 359680, 360120, 360380)},
+    {CURVE(305040, 313190, 321280, 329300, 337230), CURVE(359070, 359680, 360120, 360380, 360510)},
+    {CURVE(313190, 321280, 329300, 337230, 345070), CURVE(359680, 360120, 360380, 360510, 360530)},
+    {CURVE(321280, 329300, 337230, 345070, 352820), CURVE(360120, 360380, 360510, 360530, 360460)},
+};
+
+/* The entry whose curves hold the whole bracket about an entry: itself, or at an end its neighbour. */
+static uint32_t middle_entry(uint32_t k) { return k == 0 ? 1 : k == ENTRIES - 1 ? ENTRIES - 2 : k; }
+
+static uint32_t on_curve(const curve *k, int64_t t) {
+    return (uint32_t)((uint64_t)(k->a + t * (k->b + t * k->c + (t * t - PIECE * PIECE) * k->third[t >= 0])) / SCALE);
 }
+
+/* The locus t places past an entry, each coordinate to the nearest whole number, halves up. */
+static inline point locus_point(const curves *c, int64_t t) { return (point){on_curve(&c->u, t), on_curve(&c->v, t)}; }
 
 static int64_t squared_distance(point p, point q) {
     int64_t du = (int64_t)p.u - q.u, dv = (int64_t)p.v - q.v;
     return du * du + dv * dv;
 }
 
-static int64_t distance_at(point reading, uint32_t place) { return squared_distance(reading, locus_point(place)); }
+static inline int64_t distance_at(point reading, const curves *c, int64_t t) { return squared_distance(reading, locus_point(c, t)); }
 
 /* (reading - corner) . (other - corner). */
 static int64_t dot(point reading, point corner, point other) {
@@ -84,9 +129,10 @@ static uint8_t class_of(const uint32_t *edges, size_t count, uint32_t low, uint3
     return CK_NO_CLASS;
 }
 
-/* The bracket [low, high], its inner points a and b with their distances, and the nearest point that was looked at. */
+/* The bracket [low, high], its inner points a and b with their distances, and the nearest point that was looked at, at last with
+ * its v. */
 typedef struct {
-    uint32_t low, high, a, b, best;
+    uint32_t low, high, a, b, best, v;
     int64_t at_a, at_b, at_best;
 } state;
 
@@ -96,22 +142,25 @@ static void look(state *s, uint32_t place, int64_t distance) {
 
 static state search(point reading, nearest found, uint32_t steps) {
     uint32_t m = found.entry, first = m == 0 ? 0 : m - 1, last = m == ENTRIES - 1 ? m : m + 1, g = last - first;
+    const curves *c = &CURVES[middle_entry(m) - 1];
+    int64_t middle = entry_place(middle_entry(m));
     state s = {.low = entry_place(first), .high = entry_place(last), .best = entry_place(m), .at_best = found.distance};
-    s.a = s.low + g * FIBONACCI[16], s.at_a = distance_at(reading, s.a);
-    s.b = s.low + g * FIBONACCI[17], s.at_b = distance_at(reading, s.b);
+    s.a = s.low + g * FIBONACCI[16], s.at_a = distance_at(reading, c, s.a - middle);
+    s.b = s.low + g * FIBONACCI[17], s.at_b = distance_at(reading, c, s.b - middle);
     look(&s, s.a, s.at_a);
     look(&s, s.b, s.at_b);
     for (uint32_t j = 1; j <= steps; j++) {
         if (s.at_a < s.at_b) {
             s.high = s.b, s.b = s.a, s.at_b = s.at_a;
-            s.a = s.low + g * FIBONACCI[16 - j], s.at_a = distance_at(reading, s.a);
+            s.a = s.low + g * FIBONACCI[16 - j], s.at_a = distance_at(reading, c, s.a - middle);
             look(&s, s.a, s.at_a);
         } else {
             s.low = s.a, s.a = s.b, s.at_a = s.at_b;
-            s.b = s.low + g * FIBONACCI[17 - j], s.at_b = distance_at(reading, s.b);
+            s.b = s.low + g * FIBONACCI[17 - j], s.at_b = distance_at(reading, c, s.b - middle);
             look(&s, s.b, s.at_b);
         }
     }
+    s.v = on_curve(&c->v, s.best - middle);
     return s;
 }
 
@@ -127,7 +176,7 @@ static ck_whole answer(point reading, const uint32_t *edges, size_t edge_count, 
     return (ck_whole){.place = s.best,
                       .low = s.low,
                       .high = s.high,
-                      .duv = reading.v >= locus_point(s.best).v ? root : -root,
+                      .duv = reading.v >= s.v ? root : -root,
                       .steps = (uint8_t)steps,
                       .class_index = class_of(edges, edge_count, s.low, s.high, s.best)};
 }
