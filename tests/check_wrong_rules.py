@@ -3,10 +3,10 @@
     python3 tests/check_wrong_rules.py      the rules that are caught, how many, and the names of those that are not
 
 The first six are the mistakes that document 01 warns of; the others are near misses that its rules, and those of document 02,
-leave room for. Those of spectral samples are tried on the vectors of samples, those of the locus on the vectors of places and of the
-search, those of the text program on the first lines of its committed input, then on more, and at last on all of it, and the others
-on the vectors of neither samples nor places. A wrong rule with which the reference cannot go on shows nothing, and ends the
-check."""
+leave room for. Those of spectral samples are tried on the vectors of samples, those of the locus on the vectors of places and of
+the search, those of the text program on the first lines of its committed input, then on more, and at last on all of it, and the
+others on the vectors of neither samples nor places. A wrong rule with which the reference cannot go on shows nothing, and ends
+the check."""
 
 import re
 import sys

@@ -21,7 +21,7 @@ def off_a_half(place):
 
 
 def point_places():
-    """Every 37th place and the last; the entries, and the places whose rounding is hardest, exact halves first, with their neighbours."""
+    """Every 37th place and the last; the entries, and the exact halves and nearest to a half, with their neighbours."""
     hardest = sorted(PLACES, key=off_a_half)[:NEAREST_TO_A_HALF]
     assert off_a_half(hardest[0]) == 0
     about = {place + k for place in (*map(ref.entry_place, ref.ENTRIES), *hardest) for k in (-1, 0, 1)}
@@ -51,7 +51,7 @@ def entry_lines(dice):
 
 
 def search_readings(dice):
-    """Plain readings, both end pieces, equal inner points, a point as near as the nearest seen, and a nearest point outside the bracket."""
+    """Plain readings, both end pieces, equal inner points, a point as near as the nearest seen, a nearest one outside the bracket."""
     readings = [admitted(dice) for _ in range(150)] + [about_piece(dice, i) for i in (1, 23) for _ in range(30)]
     readings += level_ties(dice, 40)
     readings += search_ties(dice, comparisons, 150) + search_ties(dice, looks, 100) + best_outside(dice, 60)

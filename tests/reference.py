@@ -203,7 +203,7 @@ def entry_point(i):
 
 
 def piece_of(place):
-    """The i of the piece from entry i to entry i + 1 that holds a place; an entry, but for the last, is in the piece that it begins."""
+    """The i of the piece from entry i to entry i + 1 that holds a place; every entry but the last is in the piece that it begins."""
     return max(i for i in ENTRIES[:-1] if entry_place(i) <= place)
 
 
