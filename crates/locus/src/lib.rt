@@ -12,7 +12,7 @@ ghost use Rattle.locus.specs.Admission.{dot, behind, admission};
 ghost use Rattle.locus.specs.Code.Bounds.{farOut};
 ghost use Rattle.locus.specs.Code.Pieces.{thirdOf, thirdOfPiece, curveThrough, curveAbout, thirdAt, curveAt, middleEntry, spanAbout, AboutAnEntry};
 ghost use Rattle.locus.specs.Code.Curves.{Steady, CurveFits};
-ghost use Rattle.locus.specs.Code.NearestSoFar.{nearestOf};
+ghost use Rattle.locus.specs.Code.NearestSoFar.{nearAt, nearerOf, nearestOf};
 
 // The places from one entry to the next. One place is document 01's "notch".
 pub const PIECE_LENGTH: u32 = 2584;
@@ -212,39 +212,44 @@ struct Nearest {
     distance: u64,
 }
 
-// The nearest of the first n + 2 entries, from that of the first n + 1.
-fn with_next(us: &[u32; 24], vs: &[u32; 24], u: u32, v: u32, n: usize, best: Nearest) -> Nearest
-    requires { ⌜ (now us ≡ tableU) × (now vs ≡ tableV) × (u ≤ farOut) × (v ≤ farOut) × (n < 23) × (best ≡ nearestOf u v n) ⌝ }
-    ensures { λ r. ⌜ r ≡ nearestOf u v (n + 1) ⌝ }
+// Entry i with its squared distance from the reading (u, v).
+fn near_at(us: &[u32; 24], vs: &[u32; 24], u: u32, v: u32, i: usize) -> Nearest
+    requires { ⌜ (now us ≡ tableU) × (now vs ≡ tableV) × (u ≤ farOut) × (v ≤ farOut) × (1 ≤ i) × (i ≤ 24) ⌝ }
+    ensures { λ r. ⌜ r ≡ nearAt u v i ⌝ }
 {
-    let next = stored_point(us, vs, n + 2);
-    let distance = squared_distance(u, v, next.u, next.v);
-    if distance < best.distance {
-        Nearest {
-            entry: n as u32 + 2,
-            distance: distance,
-        }
-    } else {
-        best
+    let point = stored_point(us, vs, i);
+    let distance = squared_distance(u, v, point.u, point.v);
+    Nearest {
+        entry: i as u32,
+        distance: distance,
     }
 }
 
-// The nearest entry; of equals, the lowest.
+// The nearer of two entries; of equals, the first.
+fn nearer(first: Nearest, second: Nearest) -> Nearest
+    ensures { λ r. ⌜ r ≡ nearerOf first second ⌝ }
+{
+    if second.distance < first.distance {
+        second
+    } else {
+        first
+    }
+}
+
+// The nearest entry; of equals, the lowest. Both halves of the table are walked at once, so that neither waits for the other.
 fn nearest_entry(us: &[u32; 24], vs: &[u32; 24], u: u32, v: u32) -> Nearest
     requires { ⌜ (now us ≡ tableU) × (now vs ≡ tableV) × (u ≤ farOut) × (v ≤ farOut) ⌝ }
     ensures { λ r. ⌜ r ≡ nearestOf u v 23 ⌝ }
 {
-    let first = stored_point(us, vs, 1);
-    let mut best = Nearest {
-        entry: 1,
-        distance: squared_distance(u, v, first.u, first.v),
-    };
+    let mut low = near_at(us, vs, u, v, 1);
+    let mut high = near_at(us, vs, u, v, 13);
     let mut n: usize = 0;
-    while n < 23 {
-        best = with_next(us, vs, u, v, n, best);
+    while n < 11 {
+        low = nearer(low, near_at(us, vs, u, v, n + 2));
+        high = nearer(high, near_at(us, vs, u, v, n + 14));
         n += 1;
     }
-    best
+    nearer(low, high)
 }
 
 // The dot product of (a, b) and (x, y).
