@@ -3,7 +3,7 @@
 >>> import cradlekeel
 >>> answer = cradlekeel.read_xy(0.3127, 0.3290)
 >>> round(answer.kelvin), answer.duv, answer.class_index
-(6518, 0.003241, 3)
+(6510, 0.003191, 3)
 
 Build the library first: `make lib` in the repository's root, and again after `.ci/run`, which empties target/. The
 variable CRADLEKEEL_LIBRARY names a library in another place. Only Python's standard library is used. examples/lamp.py is a

@@ -55,7 +55,7 @@ class Answer:
     """What an accepted reading comes to.
 
     >>> print(read_xy(0.3127, 0.3290))
-    6517.8 K, Duv +0.003241, range 6516.2 to 6518.7 K, class 3
+    6509.6 K, Duv +0.003191, range 6508.8 to 6511.3 K, class 3
     """
 
     kelvin: float
@@ -86,7 +86,7 @@ def read_uv(u, v, edges=EDGES, steps=STEPS):
 
     >>> answer = read_uv(0.2193, 0.3271, steps=2)
     >>> answer.place, answer.low, answer.high, answer.duv, answer.class_index
-    (23112, 21892, 23866, -0.002311, 2)
+    (23112, 21892, 23866, -0.002331, 2)
     """
     return _read("ck_read_uv", (u, v), edges, steps)
 
@@ -96,7 +96,7 @@ def read_uv_prime(u_prime, v_prime, edges=EDGES, steps=STEPS):
 
     >>> answer = read_uv_prime(0.25, 0.5)
     >>> answer.place, answer.low, answer.high, answer.duv, answer.class_index
-    (32552, 32548, 32554, -0.012924, 1)
+    (32600, 32598, 32604, -0.012992, 1)
     """
     return _read("ck_read_uvp", (u_prime, v_prime), edges, steps)
 
@@ -119,7 +119,7 @@ def read_xyz(x, y, z, edges=EDGES, steps=STEPS):
     rounded to 0.00001, is at least 1.
 
     >>> round(read_xyz(100, 100, 100).kelvin)
-    5451
+    5454
     >>> read_xyz(100, 100, -0.000001) == read_xyz(100, 100, 0)
     True
     """
@@ -151,7 +151,7 @@ def read_samples(samples, x_bar, y_bar, z_bar, edges=EDGES, steps=STEPS):
     >>> from cradlekeel import cie_1931
     >>> equal_energy = 471 * [1000]
     >>> print(read_samples(equal_energy, *cie_1931(360, 830, 1)))
-    5451.5 K, Duv -0.004362, range 5450.3 to 5452.1 K, class 3
+    5454.4 K, Duv -0.004452, range 5453.2 to 5454.9 K, class 3
     >>> read_samples([1000], [1], [1], [1, 1])
     Traceback (most recent call last):
         ...

@@ -66,7 +66,7 @@ def read_spectrum(wavelengths, values, edges=EDGES, steps=STEPS):
 
     >>> wavelengths = range(380, 785, 5)
     >>> print(read_spectrum(wavelengths, [wavelength / 555 for wavelength in wavelengths]))
-    4455.9 K, Duv -0.005059, range 4455.2 to 4456.3 K, class 2
+    4444.1 K, Duv -0.005066, range 4443.7 to 4444.8 K, class 2
     >>> read_spectrum([500, 510, 530], [0.5, 0.75, 1])
     Traceback (most recent call last):
         ...
