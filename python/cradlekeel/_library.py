@@ -49,7 +49,8 @@ def _make_command():
 
 
 @functools.lru_cache(maxsize=None)
-def _function(name):
+def c_function(name):
+    """The C function `name`, once it knows what it takes and returns."""
     library = _library()
     try:
         function = getattr(library, name)
@@ -63,7 +64,7 @@ def _function(name):
 def call(name, reading, edges, steps):
     """One call of the C function `name`, its result as it is; a list among the numbers of the reading goes over with its count."""
     given = [part for item in reading for part in (_as_list(item) if isinstance(item, list) else [item])]
-    return _function(name)(*given, *_as_list(edges), steps)
+    return c_function(name)(*given, *_as_list(edges), steps)
 
 
 def _as_list(numbers):
