@@ -21,7 +21,10 @@ use Rattle.locus.specs.Code.Pieces.{half, thirdOf, thirdOfPiece, curveTh
 use Rattle.locus.specs.declared.Curve.{Curve}
 
 -- the third difference from the four coordinates that were read
-pub third-is : (table : List ℕ) (i k : ℕ) {w x y z : ℕ} → k ≡ firstOfFour i → w ≡ entryIn table k → x ≡ entryIn table (k + 1) → y ≡ entryIn table (k + 2) → z ≡ entryIn table (k + 3) → thirdOf w x y z ≡ thirdOfPiece (entryIn table) i
+pub third-is :
+    (table : List ℕ) (i k : ℕ) {w x y z : ℕ}
+    → k ≡ firstOfFour i → w ≡ entryIn table k → x ≡ entryIn table (k + 1) → y ≡ entryIn table (k + 2) → z ≡ entryIn table (k + 3)
+    → thirdOf w x y z ≡ thirdOfPiece (entryIn table) i
 unfolding thirdOfPiece
 third-is table i k ek ew ex ey ez = rw (ew, ex, ey, ez, ek) refl
 
@@ -33,16 +36,36 @@ module _ (x y z : ℕ) (hx : x ≤ micro) (hy : y ≤ micro) (hz : z ≤ micro) 
   pub bend-kept : {r : ℤ} → r ≡ pos (z + x) -ℤ pos (2 * y) → Kept (pos 7752 *ℤ read w64 r) (pos 7752 *ℤ (pos (z + x) -ℤ pos (2 * y))) 15504000000
   bend-kept e = kept-times 7752 (record { same = e; small = gap-within (z + x) (2 * y) 2000000 (omega arith) (omega arith) }) tt
 
-  pub curve-from : {b c l r : ℤ} → b ≡ pos z -ℤ pos x → c ≡ pos (z + x) -ℤ pos (2 * y) → SFits w64 l → SFits w64 r → _≡_ {A = Curve} (record { a = toZ w64 (denominator * y + half); b = read w64 (pos 20031168 *ℤ read w64 b); c = read w64 (pos 7752 *ℤ read w64 c); left = read w64 l; right = read w64 r }) (curveThrough x y z l r)
-  curve-from eb ec fl fr = rw (toZ-pos w64 {n = denominator * y + half} (omega arith), kept-read (slope-kept eb) tt, kept-read (bend-kept ec) tt, back fl, back fr) refl
+  pub curve-from :
+      {b c l r : ℤ} → b ≡ pos z -ℤ pos x → c ≡ pos (z + x) -ℤ pos (2 * y) → SFits w64 l → SFits w64 r
+      → _≡_ {A = Curve}
+      (record {
+        a = toZ w64 (denominator * y + half);
+        b = read w64 (pos 20031168 *ℤ read w64 b);
+        c = read w64 (pos 7752 *ℤ read w64 c);
+        left = read w64 l;
+        right = read w64 r;
+      })
+      (curveThrough x y z l r)
+  curve-from eb ec fl fr =
+      rw
+      (toZ-pos w64 {n = denominator * y + half} (omega arith), kept-read (slope-kept eb) tt, kept-read (bend-kept ec) tt, back fl, back fr)
+      refl
 
 -- the curve about entry m from what was read of the table
-pub about-is : (table : List ℕ) (m : ℕ) {x y z : ℕ} {l r : ℤ} {curve : Curve} → curve ≡ curveThrough x y z (read w64 l) (read w64 r) → x ≡ entryIn table (m - 1) → y ≡ entryIn table m → z ≡ entryIn table (m + 1) → SFits w64 l → SFits w64 r → l ≡ thirdOfPiece (entryIn table) (m - 1) → r ≡ thirdOfPiece (entryIn table) m → curve ≡ curveAbout (entryIn table) m
+pub about-is :
+    (table : List ℕ) (m : ℕ) {x y z : ℕ} {l r : ℤ} {curve : Curve}
+    → curve ≡ curveThrough x y z (read w64 l) (read w64 r) → x ≡ entryIn table (m - 1) → y ≡ entryIn table m → z ≡ entryIn table (m + 1)
+    → SFits w64 l → SFits w64 r → l ≡ thirdOfPiece (entryIn table) (m - 1) → r ≡ thirdOfPiece (entryIn table) m
+    → curve ≡ curveAbout (entryIn table) m
 unfolding curveAbout
 about-is table m e ex ey ez fl fr el er = e ∙ rw (back fl, back fr, ex, ey, ez, el, er) refl
 
 -- the third difference that was chosen by the sign of t
-pub chosen-is : (curve : Curve) (t : ℤ) (b : Bool) → SFits w64 t → SFits w64 (cond b (curve .left) (curve .right)) → ltZ (read w64 t) (pos 0) ≡ b → read w64 (cond b (curve .left) (curve .right)) ≡ thirdAt curve t
+pub chosen-is :
+    (curve : Curve) (t : ℤ) (b : Bool)
+    → SFits w64 t → SFits w64 (cond b (curve .left) (curve .right)) → ltZ (read w64 t) (pos 0) ≡ b
+    → read w64 (cond b (curve .left) (curve .right)) ≡ thirdAt curve t
 chosen-is curve t b ft fd e = let s : ltZ t (pos 0) ≡ b = rw (back ft) at e in back fd ∙ rw s refl
 
 -- the quotient of what was worked out along a curve

@@ -37,7 +37,11 @@ cubic-is w x y z s =
 unfoldable pub polynomial : ℤ → ℤ → ℤ → ℤ → ℕ → ℤ
 polynomial a b c d s = a +ℤ b *ℤ pos s +ℤ c *ℤ pos (s * s) +ℤ d *ℤ pos (s * s * s)
 
-polynomial-is : (a b c d : ℤ) (s : ℕ) → Is (polynomial a b c d s) (above a + above b * s + above c * (s * s) + above d * (s * s * s)) (below a + below b * s + below c * (s * s) + below d * (s * s * s))
+polynomial-is :
+    (a b c d : ℤ) (s : ℕ)
+    → Is (polynomial a b c d s)
+    (above a + above b * s + above c * (s * s) + above d * (s * s * s))
+    (below a + below b * s + below c * (s * s) + below d * (s * s * s))
 unfolding polynomial
 polynomial-is a b c d s =
     is-also _ _
@@ -46,27 +50,40 @@ polynomial-is a b c d s =
     (is-product (is-parts d) (is-number (s * s * s))))
     (omega arith)
 
--- a polynomial that goes through the four values of a cubic
-module _ (a b c d : ℤ) (w x y z : ℕ) (at-0 : polynomial a b c d 0 ≡ pos (denominator * w)) (at-1 : polynomial a b c d pieceLength ≡ pos (denominator * x)) (at-2 : polynomial a b c d (2 * pieceLength) ≡ pos (denominator * y)) (at-3 : polynomial a b c d (3 * pieceLength) ≡ pos (denominator * z)) where
-  value : (s k : ℕ) → polynomial a b c d s ≡ pos k → above a + above b * s + above c * (s * s) + above d * (s * s * s) ≡ k + (below a + below b * s + below c * (s * s) + below d * (s * s * s))
+-- it has the values of a cubic at 0, 1, 2 and 3 lengths of a piece
+pub record HasValues (a b c d : ℤ) (w x y z : ℕ) : Type 0 where
+  pub at-0 : polynomial a b c d 0 ≡ pos (denominator * w)
+  pub at-1 : polynomial a b c d pieceLength ≡ pos (denominator * x)
+  pub at-2 : polynomial a b c d (2 * pieceLength) ≡ pos (denominator * y)
+  pub at-3 : polynomial a b c d (3 * pieceLength) ≡ pos (denominator * z)
+
+-- then it has its coefficients
+module _ (a b c d : ℤ) (w x y z : ℕ) (has : HasValues a b c d w x y z) where
+  value :
+      (s k : ℕ) → polynomial a b c d s ≡ pos k
+      → above a + above b * s + above c * (s * s) + above d * (s * s * s) ≡ k + (below a + below b * s + below c * (s * s) + below d * (s * s * s))
   value s k e = (rw e at (polynomial-is a b c d s)) .is
 
-  -- has its coefficients
   third-coefficient : above d + 3 * y + w ≡ below d + z + 3 * x
-  third-coefficient = omega (arith, value 0 _ at-0, value 2584 _ at-1, value 5168 _ at-2, value 7752 _ at-3)
+  third-coefficient = omega (arith, value 0 _ (has .at-0), value 2584 _ (has .at-1), value 5168 _ (has .at-2), value 7752 _ (has .at-3))
 
   second-coefficient : above c + 7752 * (5 * x + z) ≡ below c + 7752 * (2 * w + 4 * y)
-  second-coefficient = omega (arith, value 0 _ at-0, value 2584 _ at-1, value 5168 _ at-2, value 7752 _ at-3)
+  second-coefficient = omega (arith, value 0 _ (has .at-0), value 2584 _ (has .at-1), value 5168 _ (has .at-2), value 7752 _ (has .at-3))
 
   first-coefficient : above b + 6677056 * (11 * w + 9 * y) ≡ below b + 6677056 * (18 * x + 2 * z)
-  first-coefficient = omega (arith, value 0 _ at-0, value 2584 _ at-1, value 5168 _ at-2, value 7752 _ at-3)
+  first-coefficient = omega (arith, value 0 _ (has .at-0), value 2584 _ (has .at-1), value 5168 _ (has .at-2), value 7752 _ (has .at-3))
 
-  -- so the cubic is the only one of degree 3 or less that does
+  -- and is the cubic: no other polynomial of degree 3 or less has these values
   pub cubic-only : (s : ℕ) → polynomial a b c d s ≡ cubic w x y z s
   cubic-only s =
       is-same (polynomial-is a b c d s) (cubic-is w x y z s)
-      (omega
-      (arith, value 0 _ at-0, ap (λ (n : ℕ). n * s) first-coefficient, ap (λ (n : ℕ). n * (s * s)) second-coefficient, ap (λ (n : ℕ). n * (s * s * s)) third-coefficient))
+      (omega (
+        arith,
+        value 0 _ (has .at-0),
+        ap (λ (n : ℕ). n * s) first-coefficient,
+        ap (λ (n : ℕ). n * (s * s)) second-coefficient,
+        ap (λ (n : ℕ). n * (s * s * s)) third-coefficient,
+      ))
 
 -- the cubic through entries k to k + 3, s places past entry k
 abbrev pub fromEntry : (ℕ → ℕ) → ℕ → ℕ → ℤ
@@ -74,8 +91,11 @@ fromEntry entry k s = cubic (entry k) (entry (k + 1)) (entry (k + 2)) (entry (k 
 
 -- it goes through its four entries
 module _ (entry : ℕ → ℕ) (k : ℕ) where
-  at-node : (s value : ℕ) → plus (entry k) (entry (k + 1)) (entry (k + 2)) (entry (k + 3)) s ≡ minus (entry k) (entry (k + 1)) (entry (k + 2)) (entry (k + 3)) s + denominator * value → fromEntry entry k s ≡ pos (denominator * value)
-  at-node s value e = is-same (cubic-is _ _ _ _ s) (is-number (denominator * value)) (omega arith)
+  at-node :
+      (s whole : ℕ)
+      → plus (entry k) (entry (k + 1)) (entry (k + 2)) (entry (k + 3)) s ≡ minus (entry k) (entry (k + 1)) (entry (k + 2)) (entry (k + 3)) s + denominator * whole
+      → fromEntry entry k s ≡ pos (denominator * whole)
+  at-node s whole e = is-same (cubic-is _ _ _ _ s) (is-number (denominator * whole)) (omega arith)
 
   node : (j : ℕ) → j ≤ 3 → fromEntry entry k (pieceLength * j) ≡ pos (denominator * entry (k + j))
   node zero h = at-node 0 (entry k) (omega arith) ∙ ap (λ (n : ℕ). pos (denominator * entry n)) (sym (add-zero k))
@@ -85,7 +105,9 @@ module _ (entry : ℕ → ℕ) (k : ℕ) where
   node (suc (suc (suc (suc j)))) h = absurd (omega arith)
 
 -- a piece goes through the four entries that it is made of, exactly
-pub between-entry : (entry : ℕ → ℕ) (i j : ℕ) → firstOfFour i ≤ j → j ≤ firstOfFour i + 3 → between entry i (entryPlace j) ≡ pos (denominator * entry j)
+pub between-entry :
+    (entry : ℕ → ℕ) (i j : ℕ) → firstOfFour i ≤ j → j ≤ firstOfFour i + 3
+    → between entry i (entryPlace j) ≡ pos (denominator * entry j)
 unfolding between
 between-entry entry i j h l =
     let k : ℕ = firstOfFour i in
@@ -94,8 +116,12 @@ between-entry entry i j h l =
     rw s (node entry k (j - k) (omega arith) ∙ ap (λ (n : ℕ). pos (denominator * entry n)) e)
 
 -- adjoining pieces meet at the entry that they share
-pub pieces-meet : (entry : ℕ → ℕ) (i : ℕ) → 1 ≤ i → i ≤ 22 → between entry i (entryPlace (i + 1)) ≡ between entry (i + 1) (entryPlace (i + 1))
-pieces-meet entry i h l = between-entry entry i (i + 1) (omega arith) (omega arith) ∙ sym (between-entry entry (i + 1) (i + 1) (omega arith) (omega arith))
+pub pieces-meet :
+    (entry : ℕ → ℕ) (i : ℕ) → 1 ≤ i → i ≤ 22
+    → between entry i (entryPlace (i + 1)) ≡ between entry (i + 1) (entryPlace (i + 1))
+pieces-meet entry i h l =
+    between-entry entry i (i + 1) (omega arith) (omega arith)
+    ∙ sym (between-entry entry (i + 1) (i + 1) (omega arith) (omega arith))
 
 -- a whole number needs no rounding
 whole-rounded : (n : ℕ) → nearestQuotient (denominator * n) denominator ≡ n

@@ -24,7 +24,12 @@ use Rattle.locus.specs.declared.Curve.{Curve}
 use Rattle.locus.specs.declared.Span.{Span}
 
 -- the numerator as a difference, from those of its parts
-numerator-is : {a b c d t : ℤ} {pa na pb nb pc nc pd nd p n q m : ℕ} → Is a pa na → Is b pb nb → Is c pc nc → Is d pd nd → Is t p n → Is (t *ℤ t -ℤ pos 6677056) q m → Is (numerator a b c d t) (pa + (p * (pb + (p * pc + n * nc) + (q * pd + m * nd)) + n * (nb + (p * nc + n * pc) + (q * nd + m * pd)))) (na + (p * (nb + (p * nc + n * pc) + (q * nd + m * pd)) + n * (pb + (p * pc + n * nc) + (q * pd + m * nd))))
+numerator-is :
+    {a b c d t : ℤ} {pa na pb nb pc nc pd nd p n q m : ℕ}
+    → Is a pa na → Is b pb nb → Is c pc nc → Is d pd nd → Is t p n → Is (t *ℤ t -ℤ pos 6677056) q m
+    → Is (numerator a b c d t)
+    (pa + (p * (pb + (p * pc + n * nc) + (q * pd + m * nd)) + n * (nb + (p * nc + n * pc) + (q * nd + m * pd))))
+    (na + (p * (nb + (p * nc + n * pc) + (q * nd + m * pd)) + n * (pb + (p * pc + n * nc) + (q * pd + m * nd))))
 unfolding numerator
 numerator-is ha hb hc hd ht hs = is-sum ha (is-product ht (is-sum (is-sum hb (is-product ht hc)) (is-product hs hd)))
 
@@ -39,7 +44,8 @@ module _ (w x y z s : ℕ) {t : ℤ} where
   about-second ht =
       let q = is-also (s * s) (5168 * s) (is-difference (is-product ht ht) (is-number 6677056)) (omega arith) in
       is-also _ _
-      (numerator-is (is-number _) (is-product (is-number 20031168) (is-gap y w)) (is-product (is-number 7752) (is-gap (y + w) (2 * x))) (is-gap (z + 3 * x) (3 * y + w)) ht q)
+      (numerator-is (is-number _) (is-product (is-number 20031168) (is-gap y w)) (is-product (is-number 7752) (is-gap (y + w) (2 * x)))
+      (is-gap (z + 3 * x) (3 * y + w)) ht q)
       (omega arith)
 
   about-third : Is t s 5168 → Is (through x y z (thirdOf w x y z) t) (plus w x y z s + half) (minus w x y z s)
@@ -47,7 +53,8 @@ module _ (w x y z s : ℕ) {t : ℤ} where
   about-third ht =
       let q = is-also (s * s + 20031168) (10336 * s) (is-difference (is-product ht ht) (is-number 6677056)) (omega arith) in
       is-also _ _
-      (numerator-is (is-number _) (is-product (is-number 20031168) (is-gap z x)) (is-product (is-number 7752) (is-gap (z + x) (2 * y))) (is-gap (z + 3 * x) (3 * y + w)) ht q)
+      (numerator-is (is-number _) (is-product (is-number 20031168) (is-gap z x)) (is-product (is-number 7752) (is-gap (z + x) (2 * y)))
+      (is-gap (z + 3 * x) (3 * y + w)) ht q)
       (omega arith)
 
 -- the half that is added, and then the division, round to nearest, halves up
@@ -55,11 +62,17 @@ rounded : {q c : ℤ} {p n : ℕ} → Is q (p + half) n → Is c p n → n ≤ p
 rounded hq hc h = omega (arith, abs-whole hq (omega arith), abs-whole hc h)
 
 -- at a place from entry i to entry i + 1 the locus is piece i, also where that piece ends
-on-piece : (entry : ℕ → ℕ) (i place : ℕ) → 1 ≤ i → i ≤ 23 → entryPlace i ≤ place → place ≤ entryPlace (i + 1) → between entry i place ≡ between entry (pieceOf place) place
-on-piece entry i place l h lo hi = ⊎-elim (λ e. ⊎-elim (λ last. last-piece (omega arith)) (λ m. shared e (omega arith)) (eq-or-lt-of-le h)) (λ m. last-piece (omega arith)) (eq-or-lt-of-le hi)
+on-piece :
+    (entry : ℕ → ℕ) (i place : ℕ) → 1 ≤ i → i ≤ 23 → entryPlace i ≤ place → place ≤ entryPlace (i + 1)
+    → between entry i place ≡ between entry (pieceOf place) place
+on-piece entry i place l h lo hi =
+    ⊎-elim
+    (λ e. ⊎-elim (λ last. own (omega arith)) (λ m. shared e (omega arith)) (eq-or-lt-of-le h))
+    (λ m. own (omega arith))
+    (eq-or-lt-of-le hi)
   where
-    last-piece : pieceOf place ≡ i → between entry i place ≡ between entry (pieceOf place) place
-    last-piece p = rw p refl
+    own : pieceOf place ≡ i → between entry i place ≡ between entry (pieceOf place) place
+    own p = rw p refl
 
     shared : place ≡ entryPlace (i + 1) → i ≤ 22 → between entry i place ≡ between entry (pieceOf place) place
     shared e m =
@@ -88,8 +101,8 @@ module _ (table : List ℕ) (steady : Steady table) where
   curve-fits m l h =
       let a = next (m - 1) m (omega arith) (omega arith) (omega arith) in
       let b = next m (m + 1) (omega arith) h refl in
-      let slope : natAbs (pos (e (m + 1)) -ℤ pos (e (m - 1))) ≤ 20000 = gap-within (e (m + 1)) (e (m - 1)) 20000 (omega arith) (omega arith) in
-      let bend : natAbs (pos (e (m + 1) + e (m - 1)) -ℤ pos (2 * e m)) ≤ 20000 = gap-within (e (m + 1) + e (m - 1)) (2 * e m) 20000 (omega arith) (omega arith) in
+      let slope = gap-within (e (m + 1)) (e (m - 1)) 20000 (omega arith) (omega arith) in
+      let bend = gap-within (e (m + 1) + e (m - 1)) (2 * e m) 20000 (omega arith) (omega arith) in
       record {
         a-positive = tt;
         a-large = omega (arith, steady .large m (omega arith));
@@ -167,14 +180,16 @@ module _ (table : List ℕ) (steady : Steady table) where
       is-second q =
           let x : m - 1 ≡ k = omega arith in
           let z : m + 1 ≡ k + 2 = omega arith in
-          rw (at .chosen, x, z, q) (about-second (e k) (e (k + 1)) (e (k + 2)) (e (k + 3)) s (is-also s 2584 (is-gap place (2584 * (k + 2))) (omega arith)))
+          rw (at .chosen, x, z, q)
+          (about-second (e k) (e (k + 1)) (e (k + 2)) (e (k + 3)) s (is-also s 2584 (is-gap place (2584 * (k + 2))) (omega arith)))
 
       is-third : m ≡ k + 2 → Is n (over + half) under
       unfolding curveAbout thirdOfPiece
       is-third q =
           let x : m - 1 ≡ k + 1 = omega arith in
           let z : m + 1 ≡ k + 3 = omega arith in
-          rw (at .chosen, x, z, q) (about-third (e k) (e (k + 1)) (e (k + 2)) (e (k + 3)) s (is-also s 5168 (is-gap place (2584 * (k + 3))) (omega arith)))
+          rw (at .chosen, x, z, q)
+          (about-third (e k) (e (k + 1)) (e (k + 2)) (e (k + 3)) s (is-also s 5168 (is-gap place (2584 * (k + 3))) (omega arith)))
 
       -- the curve is the piece's cubic, with the half added
       curve-is : Is n (over + half) under
@@ -229,12 +244,20 @@ pub span-range : {span : Span} → AboutAnEntry span → (firstPlace ≤ span .f
 span-range {span} a = let e = span-ends (a .entry) span (a .is) in omega (arith, a .first, a .last)
 
 -- a span gives the locus at each of its places
-about-follows : (m place : ℕ) → 1 ≤ m → m ≤ 24 → entryPlace (firstEntry m) ≤ place → place ≤ entryPlace (lastEntry m) → SpanFollows (spanAbout m) place
+about-follows :
+    (m place : ℕ) → 1 ≤ m → m ≤ 24 → entryPlace (firstEntry m) ≤ place → place ≤ entryPlace (lastEntry m)
+    → SpanFollows (spanAbout m) place
 unfolding spanAbout
 about-follows m place m≥1 m≤24 lo hi =
-    record { u = follows tableU steady-u; v = follows tableV steady-v; near = gap-within place (entryPlace (middleEntry m)) 2584 (omega arith) (omega arith) }
+    record {
+      u = follows tableU steady-u;
+      v = follows tableV steady-v;
+      near = gap-within place (entryPlace (middleEntry m)) 2584 (omega arith) (omega arith);
+    }
   where
-    follows : (table : List ℕ) → Steady table → CurveFollows (entryIn table) (curveAbout (entryIn table) (middleEntry m)) (entryPlace (middleEntry m)) place
+    follows :
+        (table : List ℕ) → Steady table
+        → CurveFollows (entryIn table) (curveAbout (entryIn table) (middleEntry m)) (entryPlace (middleEntry m)) place
     follows table s =
         record {
           gives = curve-gives table s (middleEntry m) place (omega arith) (omega arith) (omega arith) (omega arith);
@@ -249,5 +272,7 @@ span-follows {span} {place} a lo hi =
 -- the coordinates of the locus there are small
 pub follows-small : {span : Span} {place : ℕ} → SpanFollows span place → (locusAt entryU place ≤ farOut) × (locusAt entryV place ≤ farOut)
 follows-small {span} {place} f =
-    let t : ℤ = pos place -ℤ pos (span .mid) in
-    (rw (f .u .gives) at (curve-small (span .u) t (f .u .fits) (f .near)), rw (f .v .gives) at (curve-small (span .v) t (f .v .fits) (f .near)))
+    let t : ℤ = pos place -ℤ pos (span .mid) in (
+      rw (f .u .gives) at (curve-small (span .u) t (f .u .fits) (f .near)),
+      rw (f .v .gives) at (curve-small (span .v) t (f .v .fits) (f .near)),
+    )

@@ -18,18 +18,18 @@ ghost use Rattle.locus.specs.Code.NearestSoFar.{nearAt, nearerOf, neares
 pub const PIECE_LENGTH: u32 = 2584;
 
 // A coordinate of the locus is a fraction over this: 6 times the cube of a piece's length.
-const DENOMINATOR: u64 = 6 * 2584 * 2584 * 2584;
+const DENOMINATOR: u64 = 6 * PIECE_LENGTH as u64 * PIECE_LENGTH as u64 * PIECE_LENGTH as u64;
 
 // Half of the denominator.
 const HALF: u64 = DENOMINATOR / 2;
 
 // The square of a piece's length.
-const PIECE_SQUARED: i64 = 2584 * 2584;
+const PIECE_SQUARED: i64 = PIECE_LENGTH as i64 * PIECE_LENGTH as i64;
 
 // Three times that square, and three times a piece's length.
 const THREE_SQUARES: i64 = 3 * PIECE_SQUARED;
 
-const THREE_PIECES: i64 = 3 * 2584;
+const THREE_PIECES: i64 = 3 * PIECE_LENGTH as i64;
 
 // A point with a coordinate over this is too far from every entry.
 const FAR_OUT: u32 = 4000000;
