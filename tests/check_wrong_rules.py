@@ -291,7 +291,7 @@ def main():
     of_locus = of_kinds(committed, lambda kind: kind in (*PLACE_KINDS, "search"))
     others = of_kinds(committed, lambda kind: kind not in (*PLACE_KINDS, *sample_cases.KINDS))
     assert first_caught_text(texts) is None, "the right rules give another output"
-    assert first_caught(of_samples) is None, "the right rules give another answer"
+    assert first_caught(of_samples + of_locus) is None, "the right rules give another answer"
     missed = missed_of(WRONG_RULES + WRONG_BELOW_ZERO_RULES, lambda: first_caught(others))
     missed += missed_of(WRONG_LOCUS_RULES, lambda: first_caught(of_locus))
     missed += missed_of(WRONG_SAMPLE_RULES, lambda: first_caught(of_samples))

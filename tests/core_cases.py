@@ -23,7 +23,7 @@ def off_a_half(place):
 def point_places():
     """Every 37th place and the last; the entries, and the exact halves and nearest to a half, with their neighbours."""
     hardest = sorted(PLACES, key=off_a_half)[:NEAREST_TO_A_HALF]
-    assert off_a_half(hardest[0]) == 0
+    assert [off_a_half(place) == 0 for place in hardest[:7]] == 6 * [True] + [False], "six places have an exact half"
     about = {place + k for place in (*map(ref.entry_place, ref.ENTRIES), *hardest) for k in (-1, 0, 1)}
     return sorted(about & set(PLACES) | set(PLACES[::37]) | {ref.LAST_PLACE})
 

@@ -1,5 +1,5 @@
 """Document 01's own cases, typed in from the document and never from our program's output: the listing, the (P) cases and the
-"Also run" list; and cases of document 02's No. 1 to 3, worked out by hand. `check()` holds the reference to them all."""
+"Also run" list; and cases of document 02's No. 1 to 3, worked out apart from the reference. `check()` holds it to them all."""
 
 from fractions import Fraction
 from itertools import product
@@ -7,7 +7,7 @@ from itertools import product
 import reference as ref
 from floats import NEGATIVE_INFINITY, QUIET_NAN, nearest_f32
 
-# Lines 3 and 4 look between entries, so that their Duv moved with document 02's No. 3.
+# Lines 3 and 4 look between entries: their Duv, -2331 and -2061, are those of document 02's No. 3, by Lagrange's form.
 LISTING = (
     ("255910 349510 0", "0 36176 33592 38760 0 0 1"),
     ("219300 327100 0", "0 23256 20672 25840 -2347 0 -"),
@@ -148,7 +148,7 @@ def check_curve():
 
 
 def check_cubics():
-    """What makes a curve the cubic through four entries: it meets each of them, and its fourth differences are zero."""
+    """What makes a curve the cubic through four entries: it meets each of them, and one fourth difference in each piece is zero."""
     assert [ref.entries_of(piece)[0] for piece in ref.ENTRIES[:-1]] == [1, *range(1, 22), 21]
     for piece, coordinate in product(ref.ENTRIES[:-1], (0, 1)):
         entries = ref.entries_of(piece)

@@ -94,9 +94,9 @@ pub below-zero : {z : ℤ} {p n : ℕ} → Is z p n → ltZ z (pos 0) ≡ ltb p 
 below-zero {z = pos k} {p = p} {n = n} h = le-ltb k 0 (omega arith) ∙ sym (le-ltb p n (omega arith))
 below-zero {z = negsuc k} {p = p} {n = n} h = sym (lt-ltb p n (omega arith))
 
-pub is-positive : {z : ℤ} {p n : ℕ} → Is z p n → n ≤ p → T (nonNeg z)
-is-positive {z = pos k} h l = tt
-is-positive {z = negsuc k} h l = absurd (omega arith)
+pub is-nonneg : {z : ℤ} {p n : ℕ} → Is z p n → n ≤ p → T (nonNeg z)
+is-nonneg {z = pos k} h l = tt
+is-nonneg {z = negsuc k} h l = absurd (omega arith)
 
 -- how far a number is from 0
 pub abs-whole : {z : ℤ} {p n : ℕ} → Is z p n → n ≤ p → natAbs z ≡ p - n
@@ -140,17 +140,17 @@ abs-product (pos a) (negsuc b) = abs-minus (pos (a * suc b))
 abs-product (negsuc a) (pos b) = abs-minus (pos (suc a * b))
 abs-product (negsuc a) (negsuc b) = refl
 
-pub square-positive : (z : ℤ) → T (nonNeg (z *ℤ z))
-square-positive (pos a) = tt
-square-positive (negsuc a) = tt
+pub square-nonneg : (z : ℤ) → T (nonNeg (z *ℤ z))
+square-nonneg (pos a) = tt
+square-nonneg (negsuc a) = tt
 
 -- z is at least j
 pub record AtLeast (j : ℕ) (z : ℤ) : Type 0 where
   pub more : ℕ
   pub is : z ≡ pos (more + j)
 
-pub at-least-positive : {j : ℕ} {z : ℤ} → AtLeast j z → T (nonNeg z)
-at-least-positive l = rw (l .is) tt
+pub at-least-nonneg : {j : ℕ} {z : ℤ} → AtLeast j z → T (nonNeg z)
+at-least-nonneg l = rw (l .is) tt
 
 pub at-least-is : {j p n : ℕ} {z : ℤ} → AtLeast j z → Is z p n → n + j ≤ p
 at-least-is l i = omega (arith, (rw (l .is) at i) .is)

@@ -11,21 +11,21 @@ use mir.Syntax.{w32, w64}
 use mir.Val.{SFits, Fits, toZ}
 use mir.Facts.{toZ-pos}
 use Rattle.arith.specs.Units.{micro}
-use Rattle.arith.specs.IntegerLaws.{gap-within, at-least-positive}
+use Rattle.arith.specs.IntegerLaws.{gap-within, at-least-nonneg}
 use Rattle.arith.specs.SignedLaws.{read, back, Kept, kept-read, kept-times}
 use Rattle.locus.specs.Stored.{entryIn, pieceLength}
 use Rattle.locus.specs.Locus.{firstOfFour, denominator}
 use Rattle.locus.specs.CurveLaws.{whole, whole-kept, at-least-half, curve-small}
-use Rattle.locus.specs.Code.Curves.{CurveFits}
-use Rattle.locus.specs.Code.Pieces.{half, thirdOf, thirdOfPiece, curveThrough, curveAbout, thirdAt, numerator, curveAt}
+use Rattle.locus.specs.Code.Fits.{CurveFits}
+use Rattle.locus.specs.Code.Pieces.{half, thirdDifference, thirdDifferenceOf, curveThrough, curveAbout, thirdDifferenceAt, numerator, curveAt}
 use Rattle.locus.specs.declared.Curve.{Curve}
 
 -- the third difference from the four coordinates that were read
 pub third-is :
     (table : List ℕ) (i k : ℕ) {w x y z : ℕ}
     → k ≡ firstOfFour i → w ≡ entryIn table k → x ≡ entryIn table (k + 1) → y ≡ entryIn table (k + 2) → z ≡ entryIn table (k + 3)
-    → thirdOf w x y z ≡ thirdOfPiece (entryIn table) i
-unfolding thirdOfPiece
+    → thirdDifference w x y z ≡ thirdDifferenceOf (entryIn table) i
+unfolding thirdDifferenceOf
 third-is table i k ek ew ex ey ez = rw (ew, ex, ey, ez, ek) refl
 
 -- the curve through three coordinates
@@ -56,7 +56,7 @@ module _ (x y z : ℕ) (hx : x ≤ micro) (hy : y ≤ micro) (hz : z ≤ micro) 
 pub about-is :
     (table : List ℕ) (m : ℕ) {x y z : ℕ} {l r : ℤ} {curve : Curve}
     → curve ≡ curveThrough x y z (read w64 l) (read w64 r) → x ≡ entryIn table (m - 1) → y ≡ entryIn table m → z ≡ entryIn table (m + 1)
-    → SFits w64 l → SFits w64 r → l ≡ thirdOfPiece (entryIn table) (m - 1) → r ≡ thirdOfPiece (entryIn table) m
+    → SFits w64 l → SFits w64 r → l ≡ thirdDifferenceOf (entryIn table) (m - 1) → r ≡ thirdDifferenceOf (entryIn table) m
     → curve ≡ curveAbout (entryIn table) m
 unfolding curveAbout
 about-is table m e ex ey ez fl fr el er = e ∙ rw (back fl, back fr, ex, ey, ez, el, er) refl
@@ -65,19 +65,19 @@ about-is table m e ex ey ez fl fr el er = e ∙ rw (back fl, back fr, ex, ey, ez
 pub chosen-is :
     (curve : Curve) (t : ℤ) (b : Bool)
     → SFits w64 t → SFits w64 (cond b (curve .left) (curve .right)) → ltZ (read w64 t) (pos 0) ≡ b
-    → read w64 (cond b (curve .left) (curve .right)) ≡ thirdAt curve t
+    → read w64 (cond b (curve .left) (curve .right)) ≡ thirdDifferenceAt curve t
 chosen-is curve t b ft fd e = let s : ltZ t (pos 0) ≡ b = rw (back ft) at e in back fd ∙ rw s refl
 
 -- the quotient of what was worked out along a curve
-module _ (curve : Curve) (t d : ℤ) (f : CurveFits curve) (h : natAbs t ≤ pieceLength) (chosen : d ≡ thirdAt curve (read w64 t)) where
+module _ (curve : Curve) (t d : ℤ) (f : CurveFits curve) (h : natAbs t ≤ pieceLength) (chosen : d ≡ thirdDifferenceAt curve (read w64 t)) where
   abbrev n : ℤ
   n = read w64 (whole curve t d f h chosen)
 
-  n-read : n ≡ numerator (curve .a) (curve .b) (curve .c) (thirdAt curve t) t
+  n-read : n ≡ numerator (curve .a) (curve .b) (curve .c) (thirdDifferenceAt curve t) t
   n-read = kept-read (whole-kept curve t d f h chosen) tt
 
   pub whole-fits : T (nonNeg n) × Fits w64 (natAbs n)
-  whole-fits = rw n-read (at-least-positive (at-least-half curve t f h), record { fits = omega (arith, whole-kept curve t d f h chosen .small) })
+  whole-fits = rw n-read (at-least-nonneg (at-least-half curve t f h), record { fits = omega (arith, whole-kept curve t d f h chosen .small) })
 
   pub quotient-fits : Fits w32 (natAbs n / denominator)
   quotient-fits = rw n-read (record { fits = omega (arith, curve-small curve t f h) })

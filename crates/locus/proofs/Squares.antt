@@ -7,7 +7,7 @@ use lib.IntN.{ℤ, pos, natAbs, _-ℤ_, _*ℤ_}
 use lib.Signed.{nonNeg}
 use mir.Syntax.{w64}
 use mir.Val.{Fits}
-use Rattle.arith.specs.IntegerLaws.{abs-gap, abs-product, gap-within, square-positive}
+use Rattle.arith.specs.IntegerLaws.{abs-gap, abs-product, gap-within, square-nonneg}
 use Rattle.arith.specs.SignedLaws.{read, Kept, kept-read, kept-product}
 use Rattle.locus.specs.Locus.{difference}
 use Rattle.locus.specs.Code.Bounds.{farOut}
@@ -26,7 +26,7 @@ module _ (x y : ℕ) (hx : x ≤ farOut) (hy : y ≤ farOut) {d : ℤ} (e : d �
   square-kept = kept-product difference-kept difference-kept tt tt
 
   pub square-whole : T (nonNeg (read w64 square)) × Fits w64 (natAbs (read w64 square))
-  square-whole = rw (kept-read square-kept tt) (square-positive z, record { fits = omega (arith, square-kept .small) })
+  square-whole = rw (kept-read square-kept tt) (square-nonneg z, record { fits = omega (arith, square-kept .small) })
 
   pub square-is : natAbs (read w64 square) ≡ difference x y * difference x y
   square-is = ap natAbs (kept-read square-kept tt) ∙ abs-product z z ∙ ap (λ (n : ℕ). n * n) (abs-gap x y)

@@ -6,7 +6,7 @@ use Rattle.arith.specs.Rounding.{nearestQuotient}
 use Rattle.locus.specs.Stored.{entryU, entryV, pieceLength, entryPlace}
 use Rattle.locus.specs.declared.Chromaticity.{Chromaticity}
 
--- the piece that holds a place: piece i runs from entry i to entry i + 1, and the last place is the end of piece 23
+-- the piece that holds a place: piece i runs from entry i to entry i + 1. An entry is in the piece that it starts, the last in piece 23
 abbrev pub pieceOf : ℕ → ℕ
 pieceOf place = min 23 (place / pieceLength - 1)
 
@@ -19,7 +19,7 @@ abbrev pub denominator : ℕ
 denominator = 6 * pieceLength * pieceLength * pieceLength
 
 -- `denominator` times the cubic that is w, x, y and z at 0, 1, 2 and 3 lengths of a piece, at s places. This is Lagrange's form: beside each value
--- stand the factors that are 0 where the other three are. `cubic-only` in LocusLaws proves that there is no other such cubic
+-- stand the factors that are 0 at the other three places. `cubic-only` in LocusLaws proves that no other cubic has these values
 abbrev pub cubic : ℕ → ℕ → ℕ → ℕ → ℕ → ℤ
 cubic w x y z s =
     let a : ℤ = pos s in
@@ -28,8 +28,8 @@ cubic w x y z s =
     let d : ℤ = pos s -ℤ pos (3 * pieceLength) in
     pos z *ℤ (a *ℤ b *ℤ c) -ℤ pos (3 * y) *ℤ (a *ℤ b *ℤ d) +ℤ pos (3 * x) *ℤ (a *ℤ c *ℤ d) -ℤ pos w *ℤ (b *ℤ c *ℤ d)
 
--- one coordinate of piece i at a place, times `denominator`: the cubic in the place through the piece's four entries. The argument
--- `entry` gives that coordinate of each entry
+-- one coordinate of piece i at a place not before the first of its four entries, times `denominator`: the cubic in the place through these
+-- four. The argument `entry` gives that coordinate of each entry
 unfoldable pub between : (ℕ → ℕ) → ℕ → ℕ → ℤ
 between entry i place =
     let k : ℕ = firstOfFour i in

@@ -3,21 +3,29 @@ use mathlib.Core.Path.{_≡_, refl, ap, sym, _∙_}
 use Prim.Native.Nat.{ℕ, zero, suc, _+_, _-_, _*_, _≤_, min}
 use native.Mathlib.Nat.{mul-le-mul, add-zero}
 use native.Mathlib.Omega.{arith}
-use lib.IntN.{ℤ, pos, _+ℤ_, _*ℤ_}
+use lib.IntN.{ℤ, pos, _+ℤ_, _-ℤ_, _*ℤ_}
 use Rattle.arith.specs.Rounding.{nearestQuotient}
 use Rattle.arith.specs.IntegerLaws.{Is, above, below, is-number, is-parts, is-gap, is-sum, is-difference, is-product, is-also, is-same}
 use Rattle.locus.specs.Stored.{entryU, entryV, pieceLength, entryPlace}
 use Rattle.locus.specs.Locus.{pieceOf, firstOfFour, denominator, cubic, between, locusAt, difference, distanceAt, entryDistance}
 use Rattle.locus.specs.Code.Bounds.{farOut}
 
+-- the four entries are i − 1 to i + 2, but in the first piece 1 to 4 and in the last 21 to 24
+pub first-of-four : (firstOfFour 1 ≡ 1) × ((i : ℕ) → 2 ≤ i → i ≤ 22 → firstOfFour i ≡ i - 1) × (firstOfFour 23 ≡ 21)
+first-of-four = (refl, (λ i l h. omega arith), refl)
+
+-- h is a piece's length
+abbrev h : ℕ
+h = pieceLength
+
 -- the cubic multiplied out: the terms that are added, and those that are taken away
 abbrev pub plus : ℕ → ℕ → ℕ → ℕ → ℕ → ℕ
 plus w x y z s =
-    z * (s * s * s + 13354112 * s) + 3 * y * (10336 * (s * s)) + 3 * x * (s * s * s + 40062336 * s) + w * (15504 * (s * s) + denominator)
+    z * (s * s * s + 2 * h * h * s) + 3 * y * (4 * h * (s * s)) + 3 * x * (s * s * s + 6 * h * h * s) + w * (6 * h * (s * s) + denominator)
 
 abbrev pub minus : ℕ → ℕ → ℕ → ℕ → ℕ → ℕ
 minus w x y z s =
-    z * (7752 * (s * s)) + 3 * y * (s * s * s + 20031168 * s) + 3 * x * (12920 * (s * s)) + w * (s * s * s + 73447616 * s)
+    z * (3 * h * (s * s)) + 3 * y * (s * s * s + 3 * h * h * s) + 3 * x * (5 * h * (s * s)) + w * (s * s * s + 11 * h * h * s)
 
 pub cubic-is : (w x y z s : ℕ) → Is (cubic w x y z s) (plus w x y z s) (minus w x y z s)
 cubic-is w x y z s =
@@ -37,56 +45,80 @@ cubic-is w x y z s =
 unfoldable pub polynomial : ℤ → ℤ → ℤ → ℤ → ℕ → ℤ
 polynomial a b c d s = a +ℤ b *ℤ pos s +ℤ c *ℤ pos (s * s) +ℤ d *ℤ pos (s * s * s)
 
+-- as a difference, from those of its coefficients
+polynomial-from :
+    {a b c d : ℤ} {pa na pb nb pc nc pd nd : ℕ} (s : ℕ) → Is a pa na → Is b pb nb → Is c pc nc → Is d pd nd
+    → Is (polynomial a b c d s) (pa + pb * s + pc * (s * s) + pd * (s * s * s)) (na + nb * s + nc * (s * s) + nd * (s * s * s))
+unfolding polynomial
+polynomial-from s ia ib ic id =
+    is-also _ _
+    (is-sum
+    (is-sum (is-sum ia (is-product ib (is-number s))) (is-product ic (is-number (s * s))))
+    (is-product id (is-number (s * s * s))))
+    (omega arith)
+
 polynomial-is :
     (a b c d : ℤ) (s : ℕ)
     → Is (polynomial a b c d s)
     (above a + above b * s + above c * (s * s) + above d * (s * s * s))
     (below a + below b * s + below c * (s * s) + below d * (s * s * s))
-unfolding polynomial
-polynomial-is a b c d s =
-    is-also _ _
-    (is-sum
-    (is-sum (is-sum (is-parts a) (is-product (is-parts b) (is-number s))) (is-product (is-parts c) (is-number (s * s))))
-    (is-product (is-parts d) (is-number (s * s * s))))
+polynomial-is a b c d s = polynomial-from s (is-parts a) (is-parts b) (is-parts c) (is-parts d)
+
+-- the coefficients of the cubic, the constant one apart
+abbrev firstCoefficient : ℕ → ℕ → ℕ → ℕ → ℤ
+firstCoefficient w x y z = pos (h * h * (18 * x + 2 * z)) -ℤ pos (h * h * (11 * w + 9 * y))
+
+abbrev secondCoefficient : ℕ → ℕ → ℕ → ℕ → ℤ
+secondCoefficient w x y z = pos (3 * h * (2 * w + 4 * y)) -ℤ pos (3 * h * (5 * x + z))
+
+abbrev thirdCoefficient : ℕ → ℕ → ℕ → ℕ → ℤ
+thirdCoefficient w x y z = pos (z + 3 * x) -ℤ pos (3 * y + w)
+
+-- the cubic is a polynomial of degree 3 or less
+pub cubic-polynomial :
+    (w x y z s : ℕ)
+    → polynomial (pos (denominator * w)) (firstCoefficient w x y z) (secondCoefficient w x y z) (thirdCoefficient w x y z) s ≡ cubic w x y z s
+cubic-polynomial w x y z s =
+    is-same
+    (polynomial-from s (is-number (denominator * w)) (is-gap (h * h * (18 * x + 2 * z)) (h * h * (11 * w + 9 * y)))
+    (is-gap (3 * h * (2 * w + 4 * y)) (3 * h * (5 * x + z))) (is-gap (z + 3 * x) (3 * y + w)))
+    (cubic-is w x y z s)
     (omega arith)
 
--- it has the values of a cubic at 0, 1, 2 and 3 lengths of a piece
+-- a polynomial is `denominator` times w, x, y and z at 0, 1, 2 and 3 lengths of a piece
 pub record HasValues (a b c d : ℤ) (w x y z : ℕ) : Type 0 where
   pub at-0 : polynomial a b c d 0 ≡ pos (denominator * w)
   pub at-1 : polynomial a b c d pieceLength ≡ pos (denominator * x)
   pub at-2 : polynomial a b c d (2 * pieceLength) ≡ pos (denominator * y)
   pub at-3 : polynomial a b c d (3 * pieceLength) ≡ pos (denominator * z)
 
--- then it has its coefficients
 module _ (a b c d : ℤ) (w x y z : ℕ) (has : HasValues a b c d w x y z) where
   value :
       (s k : ℕ) → polynomial a b c d s ≡ pos k
       → above a + above b * s + above c * (s * s) + above d * (s * s * s) ≡ k + (below a + below b * s + below c * (s * s) + below d * (s * s * s))
   value s k e = (rw e at (polynomial-is a b c d s)) .is
 
-  third-coefficient : above d + 3 * y + w ≡ below d + z + 3 * x
-  third-coefficient = omega (arith, value 0 _ (has .at-0), value 2584 _ (has .at-1), value 5168 _ (has .at-2), value 7752 _ (has .at-3))
+  -- then its coefficients are the cubic's
+  coefficients :
+      (above b + h * h * (11 * w + 9 * y) ≡ below b + h * h * (18 * x + 2 * z))
+      × (above c + 3 * h * (5 * x + z) ≡ below c + 3 * h * (2 * w + 4 * y))
+      × (above d + 3 * y + w ≡ below d + z + 3 * x)
+  coefficients = omega (arith, value 0 _ (has .at-0), value 2584 _ (has .at-1), value 5168 _ (has .at-2), value 7752 _ (has .at-3))
 
-  second-coefficient : above c + 7752 * (5 * x + z) ≡ below c + 7752 * (2 * w + 4 * y)
-  second-coefficient = omega (arith, value 0 _ (has .at-0), value 2584 _ (has .at-1), value 5168 _ (has .at-2), value 7752 _ (has .at-3))
-
-  first-coefficient : above b + 6677056 * (11 * w + 9 * y) ≡ below b + 6677056 * (18 * x + 2 * z)
-  first-coefficient = omega (arith, value 0 _ (has .at-0), value 2584 _ (has .at-1), value 5168 _ (has .at-2), value 7752 _ (has .at-3))
-
-  -- and is the cubic: no other polynomial of degree 3 or less has these values
+  -- so it is the cubic: no other polynomial of degree 3 or less, with whole coefficients, has these values
   pub cubic-only : (s : ℕ) → polynomial a b c d s ≡ cubic w x y z s
   cubic-only s =
       is-same (polynomial-is a b c d s) (cubic-is w x y z s)
       (omega (
         arith,
         value 0 _ (has .at-0),
-        ap (λ (n : ℕ). n * s) first-coefficient,
-        ap (λ (n : ℕ). n * (s * s)) second-coefficient,
-        ap (λ (n : ℕ). n * (s * s * s)) third-coefficient,
+        ap (λ (n : ℕ). n * s) (coefficients .0),
+        ap (λ (n : ℕ). n * (s * s)) (coefficients .1),
+        ap (λ (n : ℕ). n * (s * s * s)) (coefficients .2),
       ))
 
 -- the cubic through entries k to k + 3, s places past entry k
-abbrev pub fromEntry : (ℕ → ℕ) → ℕ → ℕ → ℤ
+abbrev fromEntry : (ℕ → ℕ) → ℕ → ℕ → ℤ
 fromEntry entry k s = cubic (entry k) (entry (k + 1)) (entry (k + 2)) (entry (k + 3)) s
 
 -- it goes through its four entries

@@ -11,14 +11,14 @@ use lib.IntN.{ℤ, pos, natAbs, _+ℤ_, _-ℤ_, _*ℤ_}
 use lib.Signed.{ltZ, nonNeg}
 use borrow.Author.Tests.{ltb-true, ltb-false}
 use Rattle.arith.specs.Rounding.{nearestQuotient}
-use Rattle.arith.specs.IntegerLaws.{Is, is-number, is-gap, is-sum, is-difference, is-product, is-also, is-positive, below-zero, abs-whole, gap-within, abs-product, at-least-is}
+use Rattle.arith.specs.IntegerLaws.{Is, is-number, is-gap, is-sum, is-difference, is-product, is-also, is-nonneg, below-zero, abs-whole, gap-within, abs-product, at-least-is}
 use Rattle.locus.specs.Stored.{tableU, tableV, entryIn, entryU, entryV, pieceLength, entryPlace, firstPlace, lastPlace, firstEntry, lastEntry}
 use Rattle.locus.specs.StoredLaws.{steady-u, steady-v}
 use Rattle.locus.specs.Locus.{pieceOf, firstOfFour, denominator, cubic, between, locusAt}
 use Rattle.locus.specs.LocusLaws.{plus, minus, cubic-is, pieces-meet}
 use Rattle.locus.specs.Code.Bounds.{farOut}
-use Rattle.locus.specs.Code.Curves.{Steady, CurveFits}
-use Rattle.locus.specs.Code.Pieces.{half, thirdOf, thirdOfPiece, curveThrough, curveAbout, thirdAt, numerator, curveAt, middleEntry, spanAbout, AboutAnEntry}
+use Rattle.locus.specs.Code.Fits.{Steady, CurveFits}
+use Rattle.locus.specs.Code.Pieces.{half, thirdDifference, thirdDifferenceOf, curveThrough, curveAbout, thirdDifferenceAt, numerator, curveAt, middleEntry, spanAbout, AboutAnEntry}
 use Rattle.locus.specs.CurveLaws.{at-least-half, curve-small}
 use Rattle.locus.specs.declared.Curve.{Curve}
 use Rattle.locus.specs.declared.Span.{Span}
@@ -39,8 +39,8 @@ through x y z d t = let k : Curve = curveThrough x y z d d in numerator (k .a) (
 
 -- the cubic through w, x, y and z, s places past the first, is the curve about the second of them or about the third, but for the half
 module _ (w x y z s : ℕ) {t : ℤ} where
-  about-second : Is t s 2584 → Is (through w x y (thirdOf w x y z) t) (plus w x y z s + half) (minus w x y z s)
-  unfolding thirdOf
+  about-second : Is t s 2584 → Is (through w x y (thirdDifference w x y z) t) (plus w x y z s + half) (minus w x y z s)
+  unfolding thirdDifference
   about-second ht =
       let q = is-also (s * s) (5168 * s) (is-difference (is-product ht ht) (is-number 6677056)) (omega arith) in
       is-also _ _
@@ -48,8 +48,8 @@ module _ (w x y z s : ℕ) {t : ℤ} where
       (is-gap (z + 3 * x) (3 * y + w)) ht q)
       (omega arith)
 
-  about-third : Is t s 5168 → Is (through x y z (thirdOf w x y z) t) (plus w x y z s + half) (minus w x y z s)
-  unfolding thirdOf
+  about-third : Is t s 5168 → Is (through x y z (thirdDifference w x y z) t) (plus w x y z s + half) (minus w x y z s)
+  unfolding thirdDifference
   about-third ht =
       let q = is-also (s * s + 20031168) (10336 * s) (is-difference (is-product ht ht) (is-number 6677056)) (omega arith) in
       is-also _ _
@@ -87,8 +87,8 @@ module _ (table : List ℕ) (steady : Steady table) where
   next : (i j : ℕ) → 1 ≤ i → i ≤ 23 → j ≡ i + 1 → (e i ≤ e j + 10000) × (e j ≤ e i + 10000)
   next i j l h q = rw q (steady .near i l h)
 
-  third-small : (i : ℕ) → natAbs (thirdOfPiece e i) ≤ 40000
-  unfolding thirdOfPiece thirdOf
+  third-small : (i : ℕ) → natAbs (thirdDifferenceOf e i) ≤ 40000
+  unfolding thirdDifferenceOf thirdDifference
   third-small i =
       let k : ℕ = firstOfFour i in
       let a = next k (k + 1) (omega arith) (omega arith) refl in
@@ -96,7 +96,7 @@ module _ (table : List ℕ) (steady : Steady table) where
       let c = next (k + 2) (k + 3) (omega arith) (omega arith) (omega arith) in
       gap-within (e (k + 3) + 3 * e (k + 1)) (3 * e (k + 2) + e k) 40000 (omega arith) (omega arith)
 
-  pub curve-fits : (m : ℕ) → 2 ≤ m → m ≤ 23 → CurveFits (curveAbout e m)
+  curve-fits : (m : ℕ) → 2 ≤ m → m ≤ 23 → CurveFits (curveAbout e m)
   unfolding curveAbout
   curve-fits m l h =
       let a = next (m - 1) m (omega arith) (omega arith) (omega arith) in
@@ -104,7 +104,7 @@ module _ (table : List ℕ) (steady : Steady table) where
       let slope = gap-within (e (m + 1)) (e (m - 1)) 20000 (omega arith) (omega arith) in
       let bend = gap-within (e (m + 1) + e (m - 1)) (2 * e m) 20000 (omega arith) (omega arith) in
       record {
-        a-positive = tt;
+        a-nonneg = tt;
         a-large = omega (arith, steady .large m (omega arith));
         a-small = omega (arith, steady .small m (omega arith));
         b = omega (arith, abs-product (pos 20031168) (pos (e (m + 1)) -ℤ pos (e (m - 1))));
@@ -122,7 +122,7 @@ module _ (table : List ℕ) (steady : Steady table) where
     curve = curveAbout e m
 
     abbrev n : ℤ
-    n = numerator (curve .a) (curve .b) (curve .c) (thirdAt curve t) t
+    n = numerator (curve .a) (curve .b) (curve .c) (thirdDifferenceAt curve t) t
 
     t-small : natAbs t ≤ pieceLength
     t-small = gap-within place (entryPlace m) 2584 (omega arith) (omega arith)
@@ -135,7 +135,7 @@ module _ (table : List ℕ) (steady : Steady table) where
       end : place ≤ entryPlace (i + 1)
       second : firstOfFour i + 1 ≤ m
       third : m ≤ firstOfFour i + 2
-      chosen : thirdAt curve t ≡ thirdOfPiece e i
+      chosen : thirdDifferenceAt curve t ≡ thirdDifferenceOf e i
 
     beside : (b : Bool) → ltb place (entryPlace m) ≡ b → Beside (cond b (m - 1) m)
     unfolding curveAbout
@@ -176,7 +176,7 @@ module _ (table : List ℕ) (steady : Steady table) where
       under = minus (e k) (e (k + 1)) (e (k + 2)) (e (k + 3)) s
 
       is-second : m ≡ k + 1 → Is n (over + half) under
-      unfolding curveAbout thirdOfPiece
+      unfolding curveAbout thirdDifferenceOf
       is-second q =
           let x : m - 1 ≡ k = omega arith in
           let z : m + 1 ≡ k + 2 = omega arith in
@@ -184,7 +184,7 @@ module _ (table : List ℕ) (steady : Steady table) where
           (about-second (e k) (e (k + 1)) (e (k + 2)) (e (k + 3)) s (is-also s 2584 (is-gap place (2584 * (k + 2))) (omega arith)))
 
       is-third : m ≡ k + 2 → Is n (over + half) under
-      unfolding curveAbout thirdOfPiece
+      unfolding curveAbout thirdDifferenceOf
       is-third q =
           let x : m - 1 ≡ k + 1 = omega arith in
           let z : m + 1 ≡ k + 3 = omega arith in
@@ -209,19 +209,24 @@ module _ (table : List ℕ) (steady : Steady table) where
       unfolding locusAt
       gives = rw (← same-piece) (rounded curve-is piece-is under-over)
 
-      positive : T (nonNeg (between e (pieceOf place) place))
-      positive = rw same-piece at (is-positive piece-is under-over)
+      own-nonneg : T (nonNeg (between e (pieceOf place) place))
+      own-nonneg = rw same-piece at (is-nonneg piece-is under-over)
 
     -- the curve about entry m gives the locus there
     curve-gives : curveAt curve t ≡ locusAt e place
     curve-gives = gives _ (beside (ltb place (entryPlace m)) refl)
 
-    piece-positive : T (nonNeg (between e (pieceOf place) place))
-    piece-positive = positive _ (beside (ltb place (entryPlace m)) refl)
+    piece-nonneg : T (nonNeg (between e (pieceOf place) place))
+    piece-nonneg = own-nonneg _ (beside (ltb place (entryPlace m)) refl)
 
-  -- on the locus no piece is below 0, so that no sign is lost in the rounding
-  pub not-below : (place : ℕ) → firstPlace ≤ place → place ≤ lastPlace → T (nonNeg (between e (pieceOf place) place))
-  not-below place lo hi = piece-positive (max 2 (pieceOf place)) place (omega arith) (omega arith) (omega arith) (omega arith)
+  coordinate-nonneg : (place : ℕ) → firstPlace ≤ place → place ≤ lastPlace → T (nonNeg (between e (pieceOf place) place))
+  coordinate-nonneg place lo hi = piece-nonneg (max 2 (pieceOf place)) place (omega arith) (omega arith) (omega arith) (omega arith)
+
+-- on the locus neither numerator is below 0, so that no sign is lost in the rounding
+pub not-below :
+    (place : ℕ) → firstPlace ≤ place → place ≤ lastPlace
+    → T (nonNeg (between entryU (pieceOf place) place)) × T (nonNeg (between entryV (pieceOf place) place))
+not-below place lo hi = (coordinate-nonneg tableU steady-u place lo hi, coordinate-nonneg tableV steady-v place lo hi)
 
 -- a curve gives the coordinate `entry` of the locus at a place, and its numbers are small
 pub record CurveFollows (entry : ℕ → ℕ) (curve : Curve) (mid place : ℕ) : Type 0 where

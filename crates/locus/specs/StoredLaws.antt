@@ -1,4 +1,4 @@
--- The stored tables keep the bounds by which the code's sums and products fit: one test computed over each whole table.
+-- The stored tables keep the bounds by which the code's sums and products fit: two tests computed over each whole table.
 use mathlib.Core.Path.{_≡_, refl}
 use mathlib.Core.Bool.{Bool, true, _&&_}
 use mathlib.Core.List.{List}
@@ -13,7 +13,7 @@ use Rattle.arith.specs.Every.{every, everyEntry}
 use Rattle.arith.specs.EveryLaws.{every-at, every-entry}
 use Rattle.arith.specs.TestLaws.{and-both}
 use Rattle.locus.specs.Stored.{storedU, storedV, tableU, tableV, entryIn}
-use Rattle.locus.specs.Code.Curves.{Steady}
+use Rattle.locus.specs.Code.Fits.{Steady}
 
 -- the bounds of `Steady` as tests
 abbrev rangeTest : ℕ → Bool

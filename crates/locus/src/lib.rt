@@ -10,8 +10,8 @@ ghost use Rattle.locus.specs.Stored.{tableU, tableV, entryIn, storedPoin
 ghost use Rattle.locus.specs.Locus.{firstOfFour, locusPoint, difference, squaredDistance, distanceAt};
 ghost use Rattle.locus.specs.Admission.{dot, behind, admission};
 ghost use Rattle.locus.specs.Code.Bounds.{farOut};
-ghost use Rattle.locus.specs.Code.Pieces.{thirdOf, thirdOfPiece, curveThrough, curveAbout, thirdAt, curveAt, middleEntry, spanAbout, AboutAnEntry};
-ghost use Rattle.locus.specs.Code.Curves.{Steady, CurveFits};
+ghost use Rattle.locus.specs.Code.Pieces.{thirdDifference, thirdDifferenceOf, curveThrough, curveAbout, thirdDifferenceAt, curveAt, middleEntry, spanAbout, AboutAnEntry};
+ghost use Rattle.locus.specs.Code.Fits.{Small, CurveFits};
 ghost use Rattle.locus.specs.Code.NearestSoFar.{nearAt, nearerOf, nearestOf};
 
 // The places from one entry to the next. One place is document 01's "notch".
@@ -101,9 +101,9 @@ struct Curve {
 }
 
 // The third difference of four neighbouring coordinates.
-fn third_of(w: u32, x: u32, y: u32, z: u32) -> i64
+fn third_difference(w: u32, x: u32, y: u32, z: u32) -> i64
     requires { ⌜ (w ≤ micro) × (x ≤ micro) × (y ≤ micro) × (z ≤ micro) ⌝ }
-    ensures { λ r. ⌜ r ≡ thirdOf w x y z ⌝ }
+    ensures { λ r. ⌜ r ≡ thirdDifference w x y z ⌝ }
 {
     signed_difference(z + 3 * x, 3 * y + w)
 }
@@ -128,16 +128,16 @@ fn first_of_four(i: u32) -> u32
 }
 
 // The third difference of the four entries that piece i goes through.
-fn third_of_piece(table: &[u32; 24], i: u32) -> i64
-    requires { ⌜ Steady (now table) × (1 ≤ i) × (i ≤ 23) ⌝ }
-    ensures { λ r. ⌜ r ≡ thirdOfPiece (entryIn (now (table .entry))) i ⌝ }
+fn third_difference_of(table: &[u32; 24], i: u32) -> i64
+    requires { ⌜ Small (now table) × (1 ≤ i) × (i ≤ 23) ⌝ }
+    ensures { λ r. ⌜ r ≡ thirdDifferenceOf (entryIn (now (table .entry))) i ⌝ }
 {
     let k = first_of_four(i) as usize;
     let w = coordinate(table, k);
     let x = coordinate(table, k + 1);
     let y = coordinate(table, k + 2);
     let z = coordinate(table, k + 3);
-    third_of(w, x, y, z)
+    third_difference(w, x, y, z)
 }
 
 // The curve through x, y and z at a middle entry's neighbour before it, itself and its neighbour after it.
@@ -159,21 +159,21 @@ fn curve_through(x: u32, y: u32, z: u32, left: i64, right: i64) -> Curve
 
 // The curve about entry m, from 2 to 23.
 fn curve_about(table: &[u32; 24], m: u32) -> Curve
-    requires { ⌜ Steady (now table) × (2 ≤ m) × (m ≤ 23) ⌝ }
+    requires { ⌜ Small (now table) × (2 ≤ m) × (m ≤ 23) ⌝ }
     ensures { λ r. ⌜ r ≡ curveAbout (entryIn (now (table .entry))) m ⌝ }
 {
     let i = m as usize;
     let x = coordinate(table, i - 1);
     let y = coordinate(table, i);
     let z = coordinate(table, i + 1);
-    let left = third_of_piece(table, m - 1);
-    let right = third_of_piece(table, m);
+    let left = third_difference_of(table, m - 1);
+    let right = third_difference_of(table, m);
     curve_through(x, y, z, left, right)
 }
 
 // The third difference that a curve has t places past its middle entry.
-fn third_at(curve: Curve, t: i64) -> i64
-    ensures { λ r. ⌜ r ≡ thirdAt curve t ⌝ }
+fn third_difference_at(curve: Curve, t: i64) -> i64
+    ensures { λ r. ⌜ r ≡ thirdDifferenceAt curve t ⌝ }
 {
     if t < 0 { curve.left } else { curve.right }
 }
@@ -183,7 +183,7 @@ fn on_curve(curve: Curve, t: i64) -> u32
     requires { ⌜ CurveFits curve × (natAbs t ≤ pieceLength) ⌝ }
     ensures { λ r. ⌜ r ≡ curveAt curve t ⌝ }
 {
-    let d = third_at(curve, t);
+    let d = third_difference_at(curve, t);
     let s = t * t - PIECE_SQUARED;
     let n = curve.a + t * (curve.b + t * curve.c + s * d);
     (n as u64 / DENOMINATOR) as u32
@@ -306,7 +306,7 @@ pub fn admit(us: &[u32; 24], vs: &[u32; 24], u: u32, v: u32) -> Admission
     admit_near(us, vs, u, v)
 }
 
-// The locus from the place `from` to the place `to`, by the places past the middle entry, which stands at `mid`.
+// The locus from the place `from` to the place `to`: a curve for each coordinate, in the places past the middle entry, which is at `mid`.
 pub struct Span {
     pub from: u32,
     mid: u32,

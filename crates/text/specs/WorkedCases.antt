@@ -1,5 +1,6 @@
 -- The cases of document 01 that are marked (P), in one table: its four conversions, and the first eight lines of its listing as bytes
--- in and bytes out. One theorem says that the definitions give what the document says, by computation.
+-- in and bytes out. Its third and fourth line look between entries, so their Duv are those of document 02, No. 3. One theorem says that the
+-- definitions give what is expected, by computation.
 use mathlib.Core.Path.{_≡_, refl}
 use mathlib.Core.Bool.{false}
 use mathlib.Core.List.{List, [], _∷_, _++_, map}
@@ -31,7 +32,7 @@ pub data Result : Type 0 where
   point : Converted → Result
   printed : List ℕ → Result
 
--- what the definitions give, and what the document says
+-- what the definitions give, and what is expected
 pub record Case : Type 0 where
   pub given : Result
   pub expected : Result

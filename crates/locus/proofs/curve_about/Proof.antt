@@ -21,22 +21,22 @@ add-coordinate c = search needs
 coordinate-requires-3 : tie.Need-coordinate-requires-3
 coordinate-requires-3 c κs = search needs
 
-sub-third-of-piece : tie.Need-sub-third-of-piece
-sub-third-of-piece c = search needs
+sub-third-difference-of : tie.Need-sub-third-difference-of
+sub-third-difference-of c = search needs
 
-third-of-piece-requires : tie.Need-third-of-piece-requires
-third-of-piece-requires c κs = search needs
+third-difference-of-requires : tie.Need-third-difference-of-requires
+third-difference-of-requires c κs = search needs
 
-third-of-piece-requires-2 : tie.Need-third-of-piece-requires-2
-third-of-piece-requires-2 c κs = search needs
+third-difference-of-requires-2 : tie.Need-third-difference-of-requires-2
+third-difference-of-requires-2 c κs = search needs
 
 curve-through-requires : tie.Need-curve-through-requires
-curve-through-requires c κs = let s = c .before .before .before .before .before .pre .0 .small in
+curve-through-requires c κs = let s = c .before .before .before .before .before .pre .0 in
     (rw (c .before .before .before .before .coordinate .ensures) (s _ (omega arith)), rw (c .before .before .before .coordinate2 .ensures) (s _ (omega arith)), rw (c .before .before .coordinate3 .ensures) (s _ (omega arith)))
 
 returns : tie.Need-returns
 returns c = let s = c .before .before .before .before .before .before in
-    about-is (now (s .args .table)) (s .args .m) (c .curve-through .ensures) (c .before .before .before .before .before .coordinate .ensures) (c .before .before .before .before .coordinate2 .ensures) (c .before .before .before .coordinate3 .ensures) (record { sfits = c .before .before .third-of-piece .ok }) (record { sfits = c .before .third-of-piece2 .ok }) (c .before .before .third-of-piece .ensures) (c .before .third-of-piece2 .ensures)
+    about-is (now (s .args .table)) (s .args .m) (c .curve-through .ensures) (c .before .before .before .before .before .coordinate .ensures) (c .before .before .before .before .coordinate2 .ensures) (c .before .before .before .coordinate3 .ensures) (record { sfits = c .before .before .third-difference-of .ok }) (record { sfits = c .before .third-difference-of2 .ok }) (c .before .before .third-difference-of .ensures) (c .before .third-difference-of2 .ensures)
 
 pub curve-about-spec : {M : Type 1} → statement M
 curve-about-spec =
@@ -47,8 +47,8 @@ curve-about-spec =
     coordinate-requires-2
     add-coordinate
     coordinate-requires-3
-    sub-third-of-piece
-    third-of-piece-requires
-    third-of-piece-requires-2
+    sub-third-difference-of
+    third-difference-of-requires
+    third-difference-of-requires-2
     curve-through-requires
     returns)

@@ -1,4 +1,4 @@
--- The lent tables are steady, and the parts are those of the definition.
+-- The lent tables have small coordinates, and the parts are those of the definition.
 use mathlib.Core.Path.{_≡_, refl, ap, _∙_}
 use mathlib.Core.List.{List}
 use Prim.Native.Nat.{ℕ, _+_, _*_}
@@ -20,10 +20,10 @@ middle-entry-requires : tie.Need-middle-entry-requires
 middle-entry-requires c κs = search needs
 
 curve-about-requires : tie.Need-curve-about-requires
-curve-about-requires c κs = (rw (c .before .pre .0) steady-u, omega (arith, c .middle-entry .ensures), omega (arith, c .middle-entry .ensures))
+curve-about-requires c κs = (rw (c .before .pre .0) (steady-u .small), omega (arith, c .middle-entry .ensures), omega (arith, c .middle-entry .ensures))
 
 curve-about-requires-2 : tie.Need-curve-about-requires-2
-curve-about-requires-2 c κs = (rw (c .before .before .pre .1) steady-v, omega (arith, c .before .middle-entry .ensures), omega (arith, c .before .middle-entry .ensures))
+curve-about-requires-2 c κs = (rw (c .before .before .pre .1) (steady-v .small), omega (arith, c .before .middle-entry .ensures), omega (arith, c .before .middle-entry .ensures))
 
 first-entry-requires : tie.Need-first-entry-requires
 first-entry-requires c κs = search needs

@@ -1,4 +1,4 @@
--- What the loop over the entries keeps.
+-- What the loop over the entries keeps, for each half of them.
 use mathlib.Core.Bool.{cond}
 use Prim.Native.Nat.{ℕ, _+_}
 use lib.Dec.{ltb}

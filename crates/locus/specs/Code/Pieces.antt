@@ -16,12 +16,12 @@ abbrev pub half : ℕ
 half = 3 * pieceLength * pieceLength * pieceLength
 
 -- the third difference of four neighbouring coordinates, z − 3y + 3x − w
-unfoldable pub thirdOf : ℕ → ℕ → ℕ → ℕ → ℤ
-thirdOf w x y z = pos (z + 3 * x) -ℤ pos (3 * y + w)
+unfoldable pub thirdDifference : ℕ → ℕ → ℕ → ℕ → ℤ
+thirdDifference w x y z = pos (z + 3 * x) -ℤ pos (3 * y + w)
 
 -- that of the four entries that piece i goes through
-unfoldable pub thirdOfPiece : (ℕ → ℕ) → ℕ → ℤ
-thirdOfPiece entry i = let k : ℕ = firstOfFour i in thirdOf (entry k) (entry (k + 1)) (entry (k + 2)) (entry (k + 3))
+unfoldable pub thirdDifferenceOf : (ℕ → ℕ) → ℕ → ℤ
+thirdDifferenceOf entry i = let k : ℕ = firstOfFour i in thirdDifference (entry k) (entry (k + 1)) (entry (k + 2)) (entry (k + 3))
 
 -- the curve through x, y and z at a middle entry's neighbour before it, itself and its neighbour after it, times the denominator, with half
 -- of that added
@@ -37,11 +37,11 @@ curveThrough x y z l r =
 
 -- the curve about entry m, with the third differences of the pieces that end and start there
 unfoldable pub curveAbout : (ℕ → ℕ) → ℕ → Curve
-curveAbout entry m = curveThrough (entry (m - 1)) (entry m) (entry (m + 1)) (thirdOfPiece entry (m - 1)) (thirdOfPiece entry m)
+curveAbout entry m = curveThrough (entry (m - 1)) (entry m) (entry (m + 1)) (thirdDifferenceOf entry (m - 1)) (thirdDifferenceOf entry m)
 
 -- the third difference that a curve has t places past its middle entry
-abbrev pub thirdAt : Curve → ℤ → ℤ
-thirdAt curve t = cond (ltZ t (pos 0)) (curve .left) (curve .right)
+abbrev pub thirdDifferenceAt : Curve → ℤ → ℤ
+thirdDifferenceAt curve t = cond (ltZ t (pos 0)) (curve .left) (curve .right)
 
 -- the cubic with the numbers a, b and c of a curve and the third difference d, t places past the middle entry
 unfoldable pub numerator : ℤ → ℤ → ℤ → ℤ → ℤ → ℤ
@@ -49,7 +49,7 @@ numerator a b c d t = a +ℤ t *ℤ (b +ℤ t *ℤ c +ℤ (t *ℤ t -ℤ pos (pi
 
 -- what a curve gives t places past its middle entry
 abbrev pub curveAt : Curve → ℤ → ℕ
-curveAt curve t = natAbs (numerator (curve .a) (curve .b) (curve .c) (thirdAt curve t) t) / denominator
+curveAt curve t = natAbs (numerator (curve .a) (curve .b) (curve .c) (thirdDifferenceAt curve t) t) / denominator
 
 -- the middle entry of the span about entry m, by which its places are counted
 abbrev pub middleEntry : ℕ → ℕ

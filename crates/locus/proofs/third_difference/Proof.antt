@@ -2,10 +2,10 @@
 use mathlib.Core.Path.{_∙_, refl}
 use mir.Syntax.{w64}
 use Rattle.arith.specs.SignedLaws.{back}
-use Rattle.locus.specs.Code.Pieces.{thirdOf}
+use Rattle.locus.specs.Code.Pieces.{thirdDifference}
 use borrow.Author.Needs.{needs}
-use Rattle.locus.proofs.third_of.Statement.{statement}
-use Rattle.locus.proofs.third_of.Tie as tie
+use Rattle.locus.proofs.third_difference.Statement.{statement}
+use Rattle.locus.proofs.third_difference.Tie as tie
 
 mul-signed-difference : tie.Need-mul-signed-difference
 mul-signed-difference c = search needs
@@ -23,11 +23,11 @@ signed-difference-requires : tie.Need-signed-difference-requires
 signed-difference-requires c κs = search needs
 
 returns : tie.Need-returns
-unfolding thirdOf
+unfolding thirdDifference
 returns c = back {w = w64} {z = c .signed-difference .result} (record { sfits = c .signed-difference .ok }) ∙ c .signed-difference .ensures
 
-pub third-of-spec : {M : Type 1} → statement M
-third-of-spec =
+pub third-difference-spec : {M : Type 1} → statement M
+third-difference-spec =
     tie.close
     (tie.spec
     mul-signed-difference

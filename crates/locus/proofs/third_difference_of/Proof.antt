@@ -6,8 +6,8 @@ use mir.Syntax.{w64}
 use Rattle.arith.specs.SignedLaws.{back}
 use Rattle.locus.proofs.Curves.{third-is}
 use borrow.Author.Needs.{needs}
-use Rattle.locus.proofs.third_of_piece.Statement.{statement}
-use Rattle.locus.proofs.third_of_piece.Tie as tie
+use Rattle.locus.proofs.third_difference_of.Statement.{statement}
+use Rattle.locus.proofs.third_difference_of.Tie as tie
 
 first-of-four-requires : tie.Need-first-of-four-requires
 first-of-four-requires c κs = search needs
@@ -36,16 +36,16 @@ add-coordinate-3 c = search needs
 coordinate-requires-4 : tie.Need-coordinate-requires-4
 coordinate-requires-4 c κs = search needs
 
-third-of-requires : tie.Need-third-of-requires
-third-of-requires c κs = let s = c .before .before .before .before .before .pre .0 .small in
+third-difference-requires : tie.Need-third-difference-requires
+third-difference-requires c κs = let s = c .before .before .before .before .before .pre .0 in
     (rw (c .before .before .before .coordinate .ensures) (s _ (omega arith)), rw (c .before .before .coordinate2 .ensures) (s _ (omega arith)), rw (c .before .coordinate3 .ensures) (s _ (omega arith)), rw (c .coordinate4 .ensures) (s _ (omega arith)))
 
 returns : tie.Need-returns
 returns c = let s = c .before .before .before .before .before .before in
-    back {w = w64} {z = c .third-of .result} (record { sfits = c .third-of .ok }) ∙ c .third-of .ensures ∙ third-is (now (s .args .table)) (s .args .i) _ (c .before .before .before .before .before .first-of-four .ensures) (c .before .before .before .before .coordinate .ensures) (c .before .before .before .coordinate2 .ensures) (c .before .before .coordinate3 .ensures) (c .before .coordinate4 .ensures)
+    back {w = w64} {z = c .third-difference .result} (record { sfits = c .third-difference .ok }) ∙ c .third-difference .ensures ∙ third-is (now (s .args .table)) (s .args .i) _ (c .before .before .before .before .before .first-of-four .ensures) (c .before .before .before .before .coordinate .ensures) (c .before .before .before .coordinate2 .ensures) (c .before .before .coordinate3 .ensures) (c .before .coordinate4 .ensures)
 
-pub third-of-piece-spec : {M : Type 1} → statement M
-third-of-piece-spec =
+pub third-difference-of-spec : {M : Type 1} → statement M
+third-difference-of-spec =
     tie.close
     (tie.spec
     first-of-four-requires
@@ -57,5 +57,5 @@ third-of-piece-spec =
     coordinate-requires-3
     add-coordinate-3
     coordinate-requires-4
-    third-of-requires
+    third-difference-requires
     returns)
