@@ -53,7 +53,9 @@ enum { CK_NO_CLASS = 255 };
 /* The answer in whole numbers. */
 typedef struct ck_whole {
     uint32_t place, low, high; /* position on the locus and its bracket, 25/2584 mired each: a place q is
-                                  103,360,000 / q kelvin, so `low` is the bracket's hottest end and `high` its coolest */
+                                  103,360,000 / q kelvin, so `low` is the bracket's hottest end and `high` its coolest. The
+                                  bracket (README's range) says how far the search has narrowed; it is no uncertainty
+                                  (docs/ACCURACY.md) */
     int32_t duv;               /* in millionths; negative where the reading's v is below the point's */
     uint8_t refusal;           /* 0 accepted; else the refusal's number, and every other field is zero */
     uint8_t steps;             /* the smaller of `max_steps` and 14 */
