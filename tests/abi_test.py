@@ -105,25 +105,28 @@ def check_whole_numbers():
             raise AssertionError("taken")
 
 
-def run_python(words, library, path=ROOT / "python"):
-    """A run of Python with the package on its path and the variable that names the library set or not."""
+def run_python(words, library, root):
+    """A run of Python in a folder, with its package on the path and the variable that names the library set or not."""
     variables = {name: value for name, value in os.environ.items() if name != "CRADLEKEEL_LIBRARY"}
-    variables |= {"PYTHONPATH": str(path)} | ({"CRADLEKEEL_LIBRARY": library} if library else {})
-    return subprocess.run([sys.executable, "-B", *words], env=variables, capture_output=True, text=True)
+    variables |= {"PYTHONPATH": str(root / "python")} | ({"CRADLEKEEL_LIBRARY": library} if library else {})
+    return subprocess.run([sys.executable, "-B", *words], env=variables, capture_output=True, text=True, cwd=root)
 
 
 def check_missing_library():
-    """Without a library, or with another, the message says what to run or which file the variable names; in a folder with a space."""
+    """Without a library, or with another, the message says what to run or which file the variable names, be it by a name alone; in a
+    folder with a space."""
     call = "import cradlekeel; cradlekeel.read_xy(0.3127, 0.3290)"
     with tempfile.TemporaryDirectory(prefix="no library ") as folder:
         root = Path(folder).resolve()
         for part in ("python", "data"):
             shutil.copytree(ROOT / part, root / part, ignore=shutil.ignore_patterns("__pycache__"))
         make, absent, other = f"make -C {shlex.quote(str(root))} lib", str(root / "absent.so"), _ctypes.__file__
-        for named, words in ((None, make), (absent, f"CRADLEKEEL_LIBRARY names {absent}"), (other, "has no function ck_read_")):
-            ran = run_python(["-c", call], named, root / "python")
+        here = shutil.copy(other, root / "other.so").name
+        for named, words in ((None, make), (absent, f"CRADLEKEEL_LIBRARY names {absent}"), (other, "has no function ck_read_"),
+                             (here, f"{root / here} has no function ck_read_")):
+            ran = run_python(["-c", call], named, root)
             assert ran.returncode == 1 and "cradlekeel.LibraryMissing" in ran.stderr and words in ran.stderr, ran.stderr
-            ran = run_python(["-m", "cradlekeel", "spectrum", str(ROOT / "examples/incandescent.csv")], named, root / "python")
+            ran = run_python(["-m", "cradlekeel", "spectrum", str(ROOT / "examples/incandescent.csv")], named, root)
             assert (ran.returncode, ran.stdout, ran.stderr.count("\n")) == (2, "", 1) and words in ran.stderr, ran
 
 

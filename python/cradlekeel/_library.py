@@ -41,7 +41,7 @@ def _library():
         raise LibraryMissing(
             f"CRADLEKEEL_LIBRARY names {path}, and there is no such file" if named else
             f"Cradlekeel's library is not built: there is no {path}. Run: {_make_command()}")
-    return ctypes.CDLL(str(path))
+    return ctypes.CDLL(str(path.resolve()))  # a name without a slash would be sought in the system's folders
 
 
 def _make_command():
