@@ -9,11 +9,12 @@ use lib.IntN.{ℤ, pos, negsuc, negℤ, natAbs, subℕ, _+ℤ_, _-ℤ_, _*ℤ_}
 use lib.Signed.{ltZ, nonNeg}
 use borrow.Author.Tests.{lt-ltb, le-ltb, ltb-true, ltb-false}
 
+-- p is n and z together, or n is p and what z lacks of 0
 abbrev pub Counts : ℤ → ℕ → ℕ → Type 0
 Counts (pos k) p n = p ≡ k + n
 Counts (negsuc k) p n = n ≡ p + suc k
 
--- z is p − n
+-- z is p − n, as a record, so that z, p and n are found from it
 pub record Is (z : ℤ) (p n : ℕ) : Type 0 where
   pub is : Counts z p n
 
