@@ -19,7 +19,8 @@ abbrev pub denominator : ℕ
 denominator = 6 * pieceLength * pieceLength * pieceLength
 
 -- `denominator` times the cubic that is w, x, y and z at 0, 1, 2 and 3 lengths of a piece, at s places. This is Lagrange's form: beside each value
--- stand the factors that are 0 at the other three places. `cubic-only` in LocusLaws proves that no other cubic has these values
+-- stand the factors that are 0 at the other three places. `cubic-only` in LocusLaws proves that no other has these values
+-- and whole coefficients
 abbrev pub cubic : ℕ → ℕ → ℕ → ℕ → ℕ → ℤ
 cubic w x y z s =
     let a : ℤ = pos s in

@@ -1,4 +1,5 @@
--- A piece goes through its four entries, adjoining pieces meet, and the locus passes through all entries. Squared differences are small.
+-- The cubic of the definition is the only one through its four values; a piece goes through its four entries, adjoining pieces meet, and the
+-- locus passes through all entries. Squared differences are small.
 use mathlib.Core.Path.{_≡_, refl, ap, sym, _∙_}
 use Prim.Native.Nat.{ℕ, zero, suc, _+_, _-_, _*_, _≤_, min}
 use native.Mathlib.Nat.{mul-le-mul, add-zero}
@@ -9,10 +10,11 @@ use Rattle.arith.specs.IntegerLaws.{Is, above, below, is-number, is-parts, is-g
 use Rattle.locus.specs.Stored.{entryU, entryV, pieceLength, entryPlace}
 use Rattle.locus.specs.Locus.{pieceOf, firstOfFour, denominator, cubic, between, locusAt, difference, distanceAt, entryDistance}
 use Rattle.locus.specs.Code.Bounds.{farOut}
+use Rattle.locus.specs.Code.Pieces.{thirdDifference}
 
 -- the four entries are i − 1 to i + 2, but in the first piece 1 to 4 and in the last 21 to 24
 pub first-of-four : (firstOfFour 1 ≡ 1) × ((i : ℕ) → 2 ≤ i → i ≤ 22 → firstOfFour i ≡ i - 1) × (firstOfFour 23 ≡ 21)
-first-of-four = (refl, (λ i l h. omega arith), refl)
+first-of-four = (refl, (λ i low high. omega arith), refl)
 
 -- h is a piece's length
 abbrev h : ℕ
@@ -64,20 +66,18 @@ polynomial-is :
     (below a + below b * s + below c * (s * s) + below d * (s * s * s))
 polynomial-is a b c d s = polynomial-from s (is-parts a) (is-parts b) (is-parts c) (is-parts d)
 
--- the coefficients of the cubic, the constant one apart
+-- the coefficients of s and of s² in the cubic; that of s³ is the third difference
 abbrev firstCoefficient : ℕ → ℕ → ℕ → ℕ → ℤ
 firstCoefficient w x y z = pos (h * h * (18 * x + 2 * z)) -ℤ pos (h * h * (11 * w + 9 * y))
 
 abbrev secondCoefficient : ℕ → ℕ → ℕ → ℕ → ℤ
 secondCoefficient w x y z = pos (3 * h * (2 * w + 4 * y)) -ℤ pos (3 * h * (5 * x + z))
 
-abbrev thirdCoefficient : ℕ → ℕ → ℕ → ℕ → ℤ
-thirdCoefficient w x y z = pos (z + 3 * x) -ℤ pos (3 * y + w)
-
 -- the cubic is a polynomial of degree 3 or less
 pub cubic-polynomial :
     (w x y z s : ℕ)
-    → polynomial (pos (denominator * w)) (firstCoefficient w x y z) (secondCoefficient w x y z) (thirdCoefficient w x y z) s ≡ cubic w x y z s
+    → polynomial (pos (denominator * w)) (firstCoefficient w x y z) (secondCoefficient w x y z) (thirdDifference w x y z) s ≡ cubic w x y z s
+unfolding thirdDifference
 cubic-polynomial w x y z s =
     is-same
     (polynomial-from s (is-number (denominator * w)) (is-gap (h * h * (18 * x + 2 * z)) (h * h * (11 * w + 9 * y)))
@@ -130,18 +130,18 @@ module _ (entry : ℕ → ℕ) (k : ℕ) where
   at-node s whole e = is-same (cubic-is _ _ _ _ s) (is-number (denominator * whole)) (omega arith)
 
   node : (j : ℕ) → j ≤ 3 → fromEntry entry k (pieceLength * j) ≡ pos (denominator * entry (k + j))
-  node zero h = at-node 0 (entry k) (omega arith) ∙ ap (λ (n : ℕ). pos (denominator * entry n)) (sym (add-zero k))
-  node (suc zero) h = at-node 2584 (entry (k + 1)) (omega arith)
-  node (suc (suc zero)) h = at-node 5168 (entry (k + 2)) (omega arith)
-  node (suc (suc (suc zero))) h = at-node 7752 (entry (k + 3)) (omega arith)
-  node (suc (suc (suc (suc j)))) h = absurd (omega arith)
+  node zero few = at-node 0 (entry k) (omega arith) ∙ ap (λ (n : ℕ). pos (denominator * entry n)) (sym (add-zero k))
+  node (suc zero) few = at-node 2584 (entry (k + 1)) (omega arith)
+  node (suc (suc zero)) few = at-node 5168 (entry (k + 2)) (omega arith)
+  node (suc (suc (suc zero))) few = at-node 7752 (entry (k + 3)) (omega arith)
+  node (suc (suc (suc (suc j)))) few = absurd (omega arith)
 
 -- a piece goes through the four entries that it is made of, exactly
 pub between-entry :
     (entry : ℕ → ℕ) (i j : ℕ) → firstOfFour i ≤ j → j ≤ firstOfFour i + 3
     → between entry i (entryPlace j) ≡ pos (denominator * entry j)
 unfolding between
-between-entry entry i j h l =
+between-entry entry i j low high =
     let k : ℕ = firstOfFour i in
     let s : entryPlace j - entryPlace k ≡ pieceLength * (j - k) = omega arith in
     let e : k + (j - k) ≡ j = omega arith in
@@ -151,7 +151,7 @@ between-entry entry i j h l =
 pub pieces-meet :
     (entry : ℕ → ℕ) (i : ℕ) → 1 ≤ i → i ≤ 22
     → between entry i (entryPlace (i + 1)) ≡ between entry (i + 1) (entryPlace (i + 1))
-pieces-meet entry i h l =
+pieces-meet entry i low high =
     between-entry entry i (i + 1) (omega arith) (omega arith)
     ∙ sym (between-entry entry (i + 1) (i + 1) (omega arith) (omega arith))
 
@@ -162,13 +162,13 @@ whole-rounded n = omega arith
 -- the locus passes through its entries
 pub locus-entry : (entry : ℕ → ℕ) (i : ℕ) → 1 ≤ i → i ≤ 24 → locusAt entry (entryPlace i) ≡ entry i
 unfolding locusAt
-locus-entry entry i h l =
+locus-entry entry i low high =
     let p : pieceOf (entryPlace i) ≡ min 23 i = omega arith in
     rw (p, between-entry entry (min 23 i) i (omega arith) (omega arith)) (whole-rounded (entry i))
 
 pub entry-distance : (u v i : ℕ) → 1 ≤ i → i ≤ 24 → distanceAt u v (entryPlace i) ≡ entryDistance u v i
 unfolding distanceAt entryDistance
-entry-distance u v i h k = rw (locus-entry entryU i h k, locus-entry entryV i h k) refl
+entry-distance u v i low high = rw (locus-entry entryU i low high, locus-entry entryV i low high) refl
 
 -- a squared difference of coordinates of readings fits 64 bits
 pub square-small : (x y : ℕ) → x ≤ farOut → y ≤ farOut → difference x y * difference x y ≤ 16000000000000
