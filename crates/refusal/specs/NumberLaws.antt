@@ -6,7 +6,7 @@ use lib.Dec.{lit<}
 use lib.ListN.{getD}
 use Rattle.refusal.specs.Number.{numberOf}
 use Rattle.refusal.specs.declared.Refusal.{Refusal}
-use Rattle.refusal.specs.declared.Refusal.the-variants.{BadEdges, NotFinite, OutOfRange, TooDark, TooFar, TooHot, TooCool, BadLine, BadLengths, SampleTooLarge}
+use Rattle.refusal.specs.declared.Refusal.the-variants.{BadEdges, NotFinite, OutOfRange, TooDark, TooFar, TooHot, TooCool, BadLine, BadLengths, SampleTooLarge, TooManyRecords, NoRoom, NoTrailer, BadRecordLength, BadTrailer}
 
 -- no refusal has the number of an accepted answer, 0
 pub number-positive : (r : Refusal) → 0 < numberOf r
@@ -20,10 +20,17 @@ number-positive TooCool = lit< tt
 number-positive BadLine = lit< tt
 number-positive BadLengths = lit< tt
 number-positive SampleTooLarge = lit< tt
+number-positive TooManyRecords = lit< tt
+number-positive NoRoom = lit< tt
+number-positive NoTrailer = lit< tt
+number-positive BadRecordLength = lit< tt
+number-positive BadTrailer = lit< tt
 
 -- the refusals in the order of their numbers
 refusals : List Refusal
-refusals = BadEdges ∷ NotFinite ∷ OutOfRange ∷ TooDark ∷ TooFar ∷ TooHot ∷ TooCool ∷ BadLine ∷ BadLengths ∷ SampleTooLarge ∷ []
+refusals =
+    BadEdges ∷ NotFinite ∷ OutOfRange ∷ TooDark ∷ TooFar ∷ TooHot ∷ TooCool ∷ BadLine ∷ BadLengths ∷ SampleTooLarge
+    ∷ TooManyRecords ∷ NoRoom ∷ NoTrailer ∷ BadRecordLength ∷ BadTrailer ∷ []
 
 -- the refusal that has the number n
 refusalOf : ℕ → Refusal
@@ -41,6 +48,11 @@ of-number TooCool = refl
 of-number BadLine = refl
 of-number BadLengths = refl
 of-number SampleTooLarge = refl
+of-number TooManyRecords = refl
+of-number NoRoom = refl
+of-number NoTrailer = refl
+of-number BadRecordLength = refl
+of-number BadTrailer = refl
 
 -- two refusals with one number are one refusal
 pub number-injective : (r s : Refusal) → numberOf r ≡ numberOf s → r ≡ s

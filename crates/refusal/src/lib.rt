@@ -23,6 +23,16 @@ pub enum Refusal {
     BadLengths,
     // A sample or an observer table's number over its limit.
     SampleTooLarge,
+    // More records than a file has.
+    TooManyRecords,
+    // A target too short for what it is to hold.
+    NoRoom,
+    // A file that is shorter than a trailer.
+    NoTrailer,
+    // A file whose records are not as long as records are.
+    BadRecordLength,
+    // A file whose trailer does not tell where its records are.
+    BadTrailer,
 }
 
 impl Refusal {
@@ -40,6 +50,11 @@ impl Refusal {
             Refusal::BadLine => 8,
             Refusal::BadLengths => 9,
             Refusal::SampleTooLarge => 10,
+            Refusal::TooManyRecords => 11,
+            Refusal::NoRoom => 12,
+            Refusal::NoTrailer => 13,
+            Refusal::BadRecordLength => 14,
+            Refusal::BadTrailer => 15,
         }
     }
 }

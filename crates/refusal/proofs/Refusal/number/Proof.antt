@@ -15,6 +15,7 @@ number-spec =
     tie.close
     (tie.spec (λ c. search needs) (λ c. search needs) (λ c. search needs) (λ c. search needs) (λ c. search needs)
     (λ c. search needs) (λ c. search needs) (λ c. search needs) (λ c. search needs) (λ c. search needs)
+    (λ c. search needs) (λ c. search needs) (λ c. search needs) (λ c. search needs) (λ c. search needs)
     (λ c. of-case (c .enum-told .given .1))
     (λ c. of-case (c .enum-told2 .given .1))
     (λ c. of-case (c .enum-told3 .given .1))
@@ -24,4 +25,9 @@ number-spec =
     (λ c. of-case (c .enum-told7 .given .1))
     (λ c. of-case (c .enum-told8 .given .1))
     (λ c. of-case (c .enum-told9 .given .1))
-    (λ c. of-case (c .enum-told10 .given .1)))
+    (λ c. of-case (c .enum-told10 .given .1))
+    (λ c. of-case (c .enum-told11 .given .1))
+    (λ c. of-case (c .enum-told12 .given .1))
+    (λ c. of-case (c .enum-told13 .given .1))
+    (λ c. of-case (c .enum-told14 .given .1))
+    (λ c. of-case (c .enum-told15 .given .1)))

@@ -1,0 +1,73 @@
+-- The writer and the reader, by the tests that the code makes and the functions that it calls.
+use mathlib.Core.Path.{_≡_, refl, ap, sym, subst, _∙_}
+use Prim.Native.Nat.{ℕ, _+_, _*_, _≤_, _<_, min}
+use mathlib.Core.List.{List, _++_}
+use native.Mathlib.Omega.{arith}
+use lib.ListN.{length}
+use lib.Seq.{sets}
+use Rattle.refusal.specs.declared.Refusal.{Refusal}
+use Rattle.refusal.specs.declared.Refusal.the-variants.{TooManyRecords, NoRoom}
+use Rattle.records.specs.BytesLaws.{Bytes}
+use Rattle.records.specs.Fields.{duvWidth}
+use Rattle.records.specs.Files.{trailerBytes, recordsBytes, fileOf, recordsIn, countIn, formOf}
+use Rattle.records.specs.FilesLaws.{AllNarrow, length-file, length-records-bytes}
+use Rattle.records.specs.Columns.{Columns, sizeOf, rows, listOf, over}
+use Rattle.records.specs.ColumnsLaws.{length-rows, length-list}
+use Rattle.records.specs.Transfer.{writeOutcome, readOutcome}
+use Rattle.records.specs.Conditions.{over-most, short-target, bad-form, short-columns}
+use Rattle.records.specs.RefusalLaws.{condition-write, clear-write, condition-read, clear-read, form-condition, form-readable}
+use Rattle.records.specs.RoundTrips.{SameList}
+use Rattle.records.specs.RoundTripLaws.{read-written, written-read}
+use Rattle.records.specs.declared.files.Form.the-variants as form
+use Rattle.records.specs.declared.transfer.Outcome.the-variants.{Refused, Done}
+use Rattle.records.proofs.Stores.{then, stored-over}
+
+-- the least of the eight lengths is that of the list
+pub size-is : (c : Columns) (n : ℕ) → n ≡ min (length (c .u)) (min (length (c .v)) (min (length (c .place)) (min (length (c .low)) (min (length (c .high)) (min (length (c .duv)) (min (length (c .steps)) (length (c .class)))))))) → n ≡ sizeOf c
+unfolding sizeOf
+size-is c n e = e
+
+module _ (c : Columns) (n : ℕ) (e : n ≡ sizeOf c) (old : List ℕ) where
+  pub many-written : 3600 < n → Refused TooManyRecords ≡ writeOutcome (sizeOf c) (length old)
+  many-written h = sym (condition-write (sizeOf c) (length old) TooManyRecords (over-most (omega (arith, e))))
+
+  pub short-written : n ≤ 3600 → length old < 18 * n + 8 → Refused NoRoom ≡ writeOutcome (sizeOf c) (length old)
+  short-written h k = sym (condition-write (sizeOf c) (length old) NoRoom (short-target (omega (arith, e)) (omega (arith, e))))
+
+  pub done-written : n ≤ 3600 → 18 * n + 8 ≤ length old → Done (18 * n + 8) ≡ writeOutcome (sizeOf c) (length old)
+  done-written h k =
+      ap (λ (m : ℕ). Done (18 * m + 8)) e ∙ sym (clear-write (sizeOf c) (length old) (omega (arith, e)) (omega (arith, e)))
+
+  rows-are : rows c n ≡ listOf c
+  unfolding listOf
+  rows-are = ap (rows c) e
+
+  file-is : recordsBytes duvWidth (rows c n) ++ trailerBytes duvWidth n ≡ fileOf duvWidth (listOf c)
+  unfolding fileOf
+  file-is = ap (λ (m : ℕ). recordsBytes duvWidth (rows c n) ++ trailerBytes duvWidth m) (sym (length-rows c n)) ∙ ap (fileOf duvWidth) rows-are
+
+  -- the records and then the trailer are the file
+  pub target-written : {p q : List ℕ} → 18 * n + 8 ≤ length old → p ≡ sets old 0 (recordsBytes duvWidth (rows c n)) → q ≡ sets p (18 * n) (trailerBytes duvWidth n) → q ≡ over (fileOf duvWidth (listOf c)) old
+  target-written k f g =
+      then old 0 (18 * n) (recordsBytes duvWidth (rows c n)) (trailerBytes duvWidth n) f g (omega (arith, length-records-bytes duvWidth (rows c n), length-rows c n))
+      ∙ ap (sets old 0) file-is ∙ stored-over (fileOf duvWidth (listOf c)) old (omega (arith, length-file duvWidth (listOf c), length-list c, e))
+
+  pub back-written : n ≤ 3600 → AllNarrow duvWidth (rows c n) → SameList (listOf c)
+  back-written h ns = read-written (listOf c) (subst (AllNarrow duvWidth) rows-are ns) (omega (arith, length-list c, e))
+
+module _ (l : List ℕ) (n room : ℕ) (e : formOf l ≡ form.Records n) where
+  pub short-read : room < n → Refused NoRoom ≡ readOutcome l room
+  short-read h = let k = form-readable l n e in sym (condition-read l room NoRoom (short-columns (k .0) (omega (arith, k .1))))
+
+  pub done-read : n ≤ room → Done n ≡ readOutcome l room
+  done-read h = let k = form-readable l n e in sym (clear-read l room (k .0) (omega (arith, k .1)) ∙ ap Done (k .1))
+
+  -- the records are all in the file
+  pub file-holds : 18 * n ≤ length l
+  file-holds = let k = form-readable l n e in omega (arith, k .0 .agrees .back, k .0 .agrees .exact, k .1)
+
+  pub again-read : Bytes l → fileOf duvWidth (recordsIn duvWidth n l) ≡ l
+  again-read b = let k = form-readable l n e in ap (λ (m : ℕ). fileOf duvWidth (recordsIn duvWidth m l)) (sym (k .1)) ∙ written-read l b (k .0)
+
+pub bad-read : (l : List ℕ) (room : ℕ) (r : Refusal) → formOf l ≡ form.Refused r → Refused r ≡ readOutcome l room
+bad-read l room r e = sym (condition-read l room r (bad-form r (form-condition l r e)))

@@ -1,0 +1,144 @@
+-- `put_record` meets its contract: eight numbers stored one after another.
+use native.Mathlib.Omega.{arith}
+use mathlib.Core.Path.{ap, _∙_}
+use mir.Syntax.{w16}
+use mir.Val.{SFits}
+use Rattle.arith.specs.SignedLaws.{back}
+use lib.IntN.{ℤ, pos, negsuc}
+use Rattle.records.specs.Bytes.{asUnsigned}
+use Rattle.records.specs.BytesLaws.{Holds}
+use Rattle.records.specs.FieldsLaws.{Narrow}
+use Rattle.records.proofs.Stores.{record-stored}
+use borrow.Author.Needs.{needs}
+use Rattle.records.proofs.fields.put_record.Statement.{statement}
+use Rattle.records.proofs.fields.put_record.Tie as tie
+
+-- each number of the record fits its type
+duv-fits : (s : tie.Start) → SFits w16 (s .args .r .duv)
+duv-fits s = search needs
+
+holds-two : (z : ℤ) → SFits w16 z → Holds 2 z
+holds-two (pos n) f = omega (arith, f .sfits)
+holds-two (negsuc n) f = omega (arith, f .sfits)
+
+narrow : (s : tie.Start) → Narrow 2 (s .args .r)
+narrow s =
+    record {
+      u = omega arith;
+      v = omega arith;
+      place = omega arith;
+      low = omega arith;
+      high = omega arith;
+      duv = holds-two (s .args .r .duv) (duv-fits s);
+      steps = omega arith;
+      class = omega arith;
+    }
+
+unsigned-of-requires : tie.Need-unsigned-of-requires
+unsigned-of-requires c κs = search needs
+
+put-number-requires : tie.Need-put-number-requires
+put-number-requires c κs = search needs
+
+add-put-number : tie.Need-add-put-number
+add-put-number c = search needs
+
+put-number-requires-2 : tie.Need-put-number-requires-2
+put-number-requires-2 c κs = search needs
+
+cast-put-number : tie.Need-cast-put-number
+cast-put-number c = search needs
+
+add-put-number-2 : tie.Need-add-put-number-2
+add-put-number-2 c = search needs
+
+put-number-requires-3 : tie.Need-put-number-requires-3
+put-number-requires-3 c κs = search needs
+
+cast-put-number-2 : tie.Need-cast-put-number-2
+cast-put-number-2 c = search needs
+
+add-put-number-3 : tie.Need-add-put-number-3
+add-put-number-3 c = search needs
+
+put-number-requires-4 : tie.Need-put-number-requires-4
+put-number-requires-4 c κs = search needs
+
+cast-put-number-3 : tie.Need-cast-put-number-3
+cast-put-number-3 c = search needs
+
+add-put-number-4 : tie.Need-add-put-number-4
+add-put-number-4 c = omega (arith, c .before .before .before .before .before .before .before .before .before .before .before .before .before .before .before .before .before .before .before .before .before .before .before .pre, c .before .before .before .before .before .before .before .before .before .before .before .before .before .before .before .before .before .before .before .before .before .before .before .good)
+
+put-number-requires-5 : tie.Need-put-number-requires-5
+put-number-requires-5 c κs = omega (arith, c .before .before .before .before .before .before .before .before .before .before .before .before .before .before .before .before .before .before .before .before .before .before .before .pre, c .before .before .before .before .before .before .before .before .before .before .before .before .before .before .before .before .before .before .put-number .kept .1 .1 .0, c .before .before .before .before .before .before .before .before .before .before .before .before .before .before .put-number2 .kept .1 .1 .0, c .before .before .before .before .before .before .before .before .before .put-number3 .kept .1 .1 .0, c .before .before .before .before .put-number4 .kept .1 .1 .0)
+
+add-put-number-5 : tie.Need-add-put-number-5
+add-put-number-5 c = omega (arith, c .before .before .before .before .before .before .before .before .before .before .before .before .before .before .before .before .before .before .before .before .before .before .before .before .before .before .before .pre, c .before .before .before .before .before .before .before .before .before .before .before .before .before .before .before .before .before .before .before .before .before .before .before .before .before .before .before .good)
+
+put-number-requires-6 : tie.Need-put-number-requires-6
+put-number-requires-6 c κs = omega (arith, c .before .before .before .before .before .before .before .before .before .before .before .before .before .before .before .before .before .before .before .before .before .before .before .before .before .before .before .pre, c .before .before .before .before .before .before .before .before .before .before .before .before .before .before .before .before .before .before .before .before .before .before .put-number .kept .1 .1 .0, c .before .before .before .before .before .before .before .before .before .before .before .before .before .before .before .before .before .before .put-number2 .kept .1 .1 .0, c .before .before .before .before .before .before .before .before .before .before .before .before .before .put-number3 .kept .1 .1 .0, c .before .before .before .before .before .before .before .before .put-number4 .kept .1 .1 .0, c .before .before .before .put-number5 .kept .1 .1 .0)
+
+cast-put-number-4 : tie.Need-cast-put-number-4
+cast-put-number-4 c = search needs
+
+add-put-number-6 : tie.Need-add-put-number-6
+add-put-number-6 c = omega (arith, c .before .before .before .before .before .before .before .before .before .before .before .before .before .before .before .before .before .before .before .before .before .before .before .before .before .before .before .before .before .before .before .before .pre, c .before .before .before .before .before .before .before .before .before .before .before .before .before .before .before .before .before .before .before .before .before .before .before .before .before .before .before .before .before .before .before .before .good)
+
+put-number-requires-7 : tie.Need-put-number-requires-7
+put-number-requires-7 c κs = omega (arith, c .before .before .before .before .before .before .before .before .before .before .before .before .before .before .before .before .before .before .before .before .before .before .before .before .before .before .before .before .before .before .before .before .pre, c .before .before .before .before .before .before .before .before .before .before .before .before .before .before .before .before .before .before .before .before .before .before .before .before .before .before .before .put-number .kept .1 .1 .0, c .before .before .before .before .before .before .before .before .before .before .before .before .before .before .before .before .before .before .before .before .before .before .before .put-number2 .kept .1 .1 .0, c .before .before .before .before .before .before .before .before .before .before .before .before .before .before .before .before .before .before .put-number3 .kept .1 .1 .0, c .before .before .before .before .before .before .before .before .before .before .before .before .before .put-number4 .kept .1 .1 .0, c .before .before .before .before .before .before .before .before .put-number5 .kept .1 .1 .0, c .before .before .before .before .put-number6 .kept .1 .1 .0)
+
+cast-put-number-5 : tie.Need-cast-put-number-5
+cast-put-number-5 c = search needs
+
+add-put-number-7 : tie.Need-add-put-number-7
+add-put-number-7 c = omega (arith, c .before .before .before .before .before .before .before .before .before .before .before .before .before .before .before .before .before .before .before .before .before .before .before .before .before .before .before .before .before .before .before .before .before .before .before .before .before .pre, c .before .before .before .before .before .before .before .before .before .before .before .before .before .before .before .before .before .before .before .before .before .before .before .before .before .before .before .before .before .before .before .before .before .before .before .before .before .good)
+
+put-number-requires-8 : tie.Need-put-number-requires-8
+put-number-requires-8 c κs = omega (arith, c .before .before .before .before .before .before .before .before .before .before .before .before .before .before .before .before .before .before .before .before .before .before .before .before .before .before .before .before .before .before .before .before .before .before .before .before .before .pre, c .before .before .before .before .before .before .before .before .before .before .before .before .before .before .before .before .before .before .before .before .before .before .before .before .before .before .before .before .before .before .before .before .put-number .kept .1 .1 .0, c .before .before .before .before .before .before .before .before .before .before .before .before .before .before .before .before .before .before .before .before .before .before .before .before .before .before .before .before .put-number2 .kept .1 .1 .0, c .before .before .before .before .before .before .before .before .before .before .before .before .before .before .before .before .before .before .before .before .before .before .before .put-number3 .kept .1 .1 .0, c .before .before .before .before .before .before .before .before .before .before .before .before .before .before .before .before .before .before .put-number4 .kept .1 .1 .0, c .before .before .before .before .before .before .before .before .before .before .before .before .before .put-number5 .kept .1 .1 .0, c .before .before .before .before .before .before .before .before .before .put-number6 .kept .1 .1 .0, c .before .before .before .before .put-number7 .kept .1 .1 .0)
+
+same-length : tie.Need-same-length
+same-length c = omega (arith, c .before .before .before .before .before .before .before .before .before .before .before .before .before .before .before .before .before .before .before .before .before .before .before .before .before .before .before .before .before .before .before .before .before .before .before .put-number .kept .1 .1 .0, c .before .before .before .before .before .before .before .before .before .before .before .before .before .before .before .before .before .before .before .before .before .before .before .before .before .before .before .before .before .before .before .put-number2 .kept .1 .1 .0, c .before .before .before .before .before .before .before .before .before .before .before .before .before .before .before .before .before .before .before .before .before .before .before .before .before .before .put-number3 .kept .1 .1 .0, c .before .before .before .before .before .before .before .before .before .before .before .before .before .before .before .before .before .before .before .before .before .put-number4 .kept .1 .1 .0, c .before .before .before .before .before .before .before .before .before .before .before .before .before .before .before .before .put-number5 .kept .1 .1 .0, c .before .before .before .before .before .before .before .before .before .before .before .before .put-number6 .kept .1 .1 .0, c .before .before .before .before .before .before .before .put-number7 .kept .1 .1 .0, c .before .before .put-number8 .kept .1 .1 .0)
+
+returns : tie.Need-returns
+returns c = (
+  record-stored (c .before .before .before .before .before .before .before .before .before .before .before .before .before .before .before .before .before .before .before .before .before .before .before .before .before .before .before .before .before .before .before .before .before .before .before .before .before .before .before .before .args .out .now) (c .before .before .before .before .before .before .before .before .before .before .before .before .before .before .before .before .before .before .before .before .before .before .before .before .before .before .before .before .before .before .before .before .before .before .before .before .before .before .before .before .args .r) (c .before .before .before .before .before .before .before .before .before .before .before .before .before .before .before .before .before .before .before .before .before .before .before .before .before .before .before .before .before .before .before .before .before .before .before .before .before .before .before .before .args .at) (c .before .before .before .before .before .before .before .before .before .before .before .before .before .before .before .before .before .before .before .before .before .before .before .before .before .before .before .before .before .before .before .before .before .before .before .before .before .unsigned-of .result)
+      (c .before .before .before .before .before .before .before .before .before .before .before .before .before .before .before .before .before .before .before .before .before .before .before .before .before .before .before .before .before .before .before .before .before .before .before .before .before .unsigned-of .ensures ∙ ap (asUnsigned 2) (back (duv-fits (c .before .before .before .before .before .before .before .before .before .before .before .before .before .before .before .before .before .before .before .before .before .before .before .before .before .before .before .before .before .before .before .before .before .before .before .before .before .before .before .before))))
+      (c .before .before .before .before .before .before .before .before .before .before .before .before .before .before .before .before .before .before .before .before .before .before .before .before .before .before .before .before .before .before .before .before .before .before .before .put-number .ensures)
+      (c .before .before .before .before .before .before .before .before .before .before .before .before .before .before .before .before .before .before .before .before .before .before .before .before .before .before .before .before .before .before .before .put-number2 .ensures)
+      (c .before .before .before .before .before .before .before .before .before .before .before .before .before .before .before .before .before .before .before .before .before .before .before .before .before .before .put-number3 .ensures)
+      (c .before .before .before .before .before .before .before .before .before .before .before .before .before .before .before .before .before .before .before .before .before .put-number4 .ensures)
+      (c .before .before .before .before .before .before .before .before .before .before .before .before .before .before .before .before .put-number5 .ensures)
+      (c .before .before .before .before .before .before .before .before .before .before .before .before .put-number6 .ensures)
+      (c .before .before .before .before .before .before .before .put-number7 .ensures)
+      (c .before .before .put-number8 .ensures),
+  narrow (c .before .before .before .before .before .before .before .before .before .before .before .before .before .before .before .before .before .before .before .before .before .before .before .before .before .before .before .before .before .before .before .before .before .before .before .before .before .before .before .before),
+)
+
+pub put-record-spec : {M : Type 1} → statement M
+put-record-spec =
+    tie.close
+    (tie.spec
+    unsigned-of-requires
+    put-number-requires
+    add-put-number
+    put-number-requires-2
+    cast-put-number
+    add-put-number-2
+    put-number-requires-3
+    cast-put-number-2
+    add-put-number-3
+    put-number-requires-4
+    cast-put-number-3
+    add-put-number-4
+    put-number-requires-5
+    add-put-number-5
+    put-number-requires-6
+    cast-put-number-4
+    add-put-number-6
+    put-number-requires-7
+    cast-put-number-5
+    add-put-number-7
+    put-number-requires-8
+    same-length
+    returns)

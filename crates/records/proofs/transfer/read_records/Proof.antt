@@ -1,0 +1,97 @@
+-- `read_records` meets its contract: the form, the room, then the rows, by the laws of Transfers.
+use mathlib.Core.Path.{_≡_, refl, sym, ap, _∙_}
+use native.Mathlib.Omega.{arith}
+use Rattle.records.specs.Columns.{Columns, columns, sizeOf}
+use Rattle.records.specs.Files.{formOf}
+use Rattle.records.specs.declared.files.Form.the-variants.{Records}
+use Rattle.records.proofs.Numbers.{each-byte}
+use Rattle.records.proofs.Transfers.{size-is, short-read, done-read, file-holds, again-read, bad-read}
+use borrow.Author.Needs.{needs}
+use Rattle.records.proofs.transfer.read_records.Statement.{statement}
+use Rattle.records.proofs.transfer.read_records.Tie as tie
+
+-- the columns as they were handed over
+abbrev lent : tie.Start → Columns
+lent s = columns (s .args .u .now) (s .args .v .now) (s .args .place .now) (s .args .low .now) (s .args .high .now) (s .args .duv .now) (s .args .steps .now) (s .args .class .now)
+
+form-is : (s : tie.After-n) → formOf (s .before .before .before .before .before .before .before .before .before .before .before .args .file .now) ≡ Records (s .n .given .0 .0)
+form-is s = sym (s .before .before .check-form .ensures .0) ∙ s .n .given .1
+
+size : (s : tie.After-shortest) → s .shortest .result ≡ sizeOf (lent (s .before .before .before .before .before .before .before .before .before .before .before .before .before))
+size s = size-is (lent (s .before .before .before .before .before .before .before .before .before .before .before .before .before)) (s .shortest .result) (s .shortest .ensures)
+
+check-form-requires : tie.Need-check-form-requires
+check-form-requires c κs = search needs
+
+enum-known-refusal : tie.Need-enum-known-refusal
+enum-known-refusal c = search needs
+
+enum-known-n : tie.Need-enum-known-n
+enum-known-n c = search needs
+
+shortest-requires : tie.Need-shortest-requires
+shortest-requires c κs = search needs
+
+returns : tie.Need-returns
+returns c = (short-read (c .before .before .before .before .before .before .before .before .before .before .before .before .before .before .args .file .now) (c .before .before .before .n .given .0 .0) (sizeOf (lent (c .before .before .before .before .before .before .before .before .before .before .before .before .before .before))) (form-is (c .before .before .before)) (omega (arith, size (c .before), c .if1 .taken)), (refl, (refl, tt)))
+
+fill-rows-requires : tie.Need-fill-rows-requires
+fill-rows-requires c κs = (omega (arith, size (c .before .before .before .before .before .before .before .before .before), c .before .before .before .before .before .before .before .before .if1 .left), file-holds (c .before .before .before .before .before .before .before .before .before .before .before .before .before .before .before .before .before .before .before .before .before .before .args .file .now) (c .before .before .before .before .before .before .before .before .before .before .before .n .given .0 .0) (sizeOf (lent (c .before .before .before .before .before .before .before .before .before .before .before .before .before .before .before .before .before .before .before .before .before .before))) (form-is (c .before .before .before .before .before .before .before .before .before .before .before)))
+
+returns-2 : tie.Need-returns-2
+returns-2 c = (bad-read (c .before .before .before .before .before .before .before .before .before .before .before .before .args .file .now) (sizeOf (lent (c .before .before .before .before .before .before .before .before .before .before .before .before))) (c .before .refusal .given .0 .0) (sym (c .before .before .before .check-form .ensures .0) ∙ c .before .refusal .given .1), (refl, (refl, tt)))
+
+same-length : tie.Need-same-length
+same-length c = search needs
+
+same-length-2 : tie.Need-same-length-2
+same-length-2 c = search needs
+
+same-length-3 : tie.Need-same-length-3
+same-length-3 c = search needs
+
+same-length-4 : tie.Need-same-length-4
+same-length-4 c = search needs
+
+same-length-5 : tie.Need-same-length-5
+same-length-5 c = search needs
+
+same-length-6 : tie.Need-same-length-6
+same-length-6 c = search needs
+
+same-length-7 : tie.Need-same-length-7
+same-length-7 c = search needs
+
+same-length-8 : tie.Need-same-length-8
+same-length-8 c = search needs
+
+returns-3 : tie.Need-returns-3
+returns-3 c =
+    let room = sizeOf (lent (c .before .before .before .before .before .before .before .before .before .before .before .before .before .before .before .before .before .before .before .before .before .before .before .before .before .before .before .before .before .before .before .before .before .before .before .before .before .before)) in (
+      done-read (c .before .before .before .before .before .before .before .before .before .before .before .before .before .before .before .before .before .before .before .before .before .before .before .before .before .before .before .before .before .before .before .before .before .before .before .before .before .before .args .file .now) (c .before .before .before .before .before .before .before .before .before .before .before .before .before .before .before .before .before .before .before .before .before .before .before .before .before .before .before .n .given .0 .0) room (form-is (c .before .before .before .before .before .before .before .before .before .before .before .before .before .before .before .before .before .before .before .before .before .before .before .before .before .before .before)) (omega (arith, size (c .before .before .before .before .before .before .before .before .before .before .before .before .before .before .before .before .before .before .before .before .before .before .before .before .before), c .before .before .before .before .before .before .before .before .before .before .before .before .before .before .before .before .before .before .before .before .before .before .before .before .if1 .left)),
+      (
+        c .before .before .before .before .before .before .before .before .before .before .before .before .before .before .before .fill-rows .ensures,
+        (refl, again-read (c .before .before .before .before .before .before .before .before .before .before .before .before .before .before .before .before .before .before .before .before .before .before .before .before .before .before .before .before .before .before .before .before .before .before .before .before .before .before .args .file .now) (c .before .before .before .before .before .before .before .before .before .before .before .before .before .before .before .before .before .before .before .before .before .before .before .before .before .before .before .n .given .0 .0) room (form-is (c .before .before .before .before .before .before .before .before .before .before .before .before .before .before .before .before .before .before .before .before .before .before .before .before .before .before .before)) (each-byte (c .before .before .before .before .before .before .before .before .before .before .before .before .before .before .before .before .before .before .before .before .before .before .before .before .before .before .before .before .before .before .before .before .before .before .before .before .before .before .args .file .now) (c .before .before .before .before .before .before .before .before .before .before .before .before .before .before .before .before .before .before .before .before .before .before .before .before .before .before .before .before .before .before .before .before .before .before .before .before .before .shared-slice-known .given))),
+      ),
+    )
+
+pub read-records-spec : {M : Type 1} → statement M
+read-records-spec =
+    tie.close
+    (tie.spec
+    check-form-requires
+    enum-known-refusal
+    enum-known-n
+    shortest-requires
+    returns
+    fill-rows-requires
+    returns-2
+    same-length
+    same-length-2
+    same-length-3
+    same-length-4
+    same-length-5
+    same-length-6
+    same-length-7
+    same-length-8
+    returns-3)

@@ -1,0 +1,66 @@
+-- `write_records` meets its contract: the tests in their order, then the rows and the trailer, by the laws of Transfers.
+use mathlib.Core.Path.{_≡_, refl}
+use native.Mathlib.Omega.{arith}
+use Rattle.records.specs.Columns.{Columns, columns, sizeOf}
+use Rattle.records.proofs.Transfers.{size-is, many-written, short-written, done-written, target-written, back-written}
+use borrow.Author.Needs.{needs}
+use Rattle.records.proofs.transfer.write_records.Statement.{statement}
+use Rattle.records.proofs.transfer.write_records.Tie as tie
+
+-- the columns as they were handed over
+abbrev lent : tie.Start → Columns
+lent s = columns (s .args .u .now) (s .args .v .now) (s .args .place .now) (s .args .low .now) (s .args .high .now) (s .args .duv .now) (s .args .steps .now) (s .args .class .now)
+
+size : (s : tie.After-shortest) → s .shortest .result ≡ sizeOf (lent (s .before .before .before .before .before .before .before .before .before))
+size s = size-is (lent (s .before .before .before .before .before .before .before .before .before)) (s .shortest .result) (s .shortest .ensures)
+
+shortest-requires : tie.Need-shortest-requires
+shortest-requires c κs = search needs
+
+returns : tie.Need-returns
+returns c = (many-written (lent (c .before .before .before .before .before .before .before .before .before .before)) (c .before .shortest .result) (size (c .before)) (c .before .before .before .before .before .before .before .before .before .before .args .file .now) (c .if1 .taken), (refl, (refl, tt)))
+
+mul-records-end : tie.Need-mul-records-end
+mul-records-end c = search needs
+
+add-end : tie.Need-add-end
+add-end c = search needs
+
+returns-2 : tie.Need-returns-2
+returns-2 c = (short-written (lent (c .before .before .before .before .before .before .before .before .before .before .before)) (c .before .before .shortest .result) (size (c .before .before)) (c .before .before .before .before .before .before .before .before .before .before .before .args .file .now) (c .before .if1 .left) (c .if2 .taken), (refl, (refl, tt)))
+
+put-rows-requires : tie.Need-put-rows-requires
+put-rows-requires c κs = (omega (arith, size (c .before .before .before)), omega (arith, c .before .if2 .left))
+
+put-trailer-requires : tie.Need-put-trailer-requires
+put-trailer-requires c κs = search needs
+
+same-length : tie.Need-same-length
+same-length c = search needs
+
+returns-3 : tie.Need-returns-3
+returns-3 c =
+    let rows-put = c .before .before .before .before .before .before .put-rows .ensures in (
+      done-written (lent (c .before .before .before .before .before .before .before .before .before .before .before .before .before .before .before .before .before .before .before)) (c .before .before .before .before .before .before .before .before .before .before .shortest .result) (size (c .before .before .before .before .before .before .before .before .before .before)) (c .before .before .before .before .before .before .before .before .before .before .before .before .before .before .before .before .before .before .before .args .file .now) (c .before .before .before .before .before .before .before .before .before .if1 .left) (c .before .before .before .before .before .before .before .before .if2 .left),
+      (
+        target-written (lent (c .before .before .before .before .before .before .before .before .before .before .before .before .before .before .before .before .before .before .before)) (c .before .before .before .before .before .before .before .before .before .before .shortest .result) (size (c .before .before .before .before .before .before .before .before .before .before)) (c .before .before .before .before .before .before .before .before .before .before .before .before .before .before .before .before .before .before .before .args .file .now) (c .before .before .before .before .before .before .before .before .if2 .left) (rows-put .0) (c .before .before .put-trailer .ensures),
+        (
+          refl,
+          back-written (lent (c .before .before .before .before .before .before .before .before .before .before .before .before .before .before .before .before .before .before .before)) (c .before .before .before .before .before .before .before .before .before .before .shortest .result) (size (c .before .before .before .before .before .before .before .before .before .before)) (c .before .before .before .before .before .before .before .before .before .before .before .before .before .before .before .before .before .before .before .args .file .now) (c .before .before .before .before .before .before .before .before .before .if1 .left) (rows-put .1),
+        ),
+      ),
+    )
+
+pub write-records-spec : {M : Type 1} → statement M
+write-records-spec =
+    tie.close
+    (tie.spec
+    shortest-requires
+    returns
+    mul-records-end
+    add-end
+    returns-2
+    put-rows-requires
+    put-trailer-requires
+    same-length
+    returns-3)

@@ -1,0 +1,42 @@
+-- When refusals 11 to 15 are given: the condition of each, with those before it not met (document 02, No. 4).
+use mathlib.Core.Path.{_≡_}
+use mathlib.Core.List.{List}
+use Prim.Native.Nat.{ℕ, _+_, _*_, _≤_, _<_}
+use lib.ListN.{length}
+use Rattle.refusal.specs.declared.Refusal.{Refusal}
+use Rattle.refusal.specs.declared.Refusal.the-variants.{TooManyRecords, NoRoom, NoTrailer, BadRecordLength, BadTrailer}
+use Rattle.records.specs.Fields.{duvWidth, recordLength}
+use Rattle.records.specs.Files.{mostRecords, trailerLength, fileLength, lengthIn, countIn, backIn}
+
+-- the file ends in a trailer with the right record length
+pub record Trailed (l : List ℕ) : Type 0 where
+  pub long : trailerLength ≤ length l
+  pub width : lengthIn l ≡ recordLength duvWidth
+
+-- the distance back is that of the count, and the file is exactly the records and the trailer
+pub record Agrees (l : List ℕ) : Type 0 where
+  pub back : backIn l ≡ recordLength duvWidth * countIn l
+  pub exact : length l ≡ backIn l + trailerLength
+
+-- no condition on the form is met: the file can be read
+pub record Readable (l : List ℕ) : Type 0 where
+  pub trailed : Trailed l
+  pub agrees : Agrees l
+  pub few : countIn l ≤ mostRecords
+
+-- the form of a file
+pub data FormCondition (l : List ℕ) : Refusal → Type 0 where
+  no-trailer : length l < trailerLength → FormCondition l NoTrailer
+  bad-length : trailerLength ≤ length l → (lengthIn l ≡ recordLength duvWidth → ⊥) → FormCondition l BadRecordLength
+  bad-trailer : Trailed l → (Agrees l → ⊥) → FormCondition l BadTrailer
+  too-many : Trailed l → Agrees l → mostRecords < countIn l → FormCondition l TooManyRecords
+
+-- writing n records into a target with this room
+pub data WriteCondition (n room : ℕ) : Refusal → Type 0 where
+  over-most : mostRecords < n → WriteCondition n room TooManyRecords
+  short-target : n ≤ mostRecords → room < fileLength duvWidth n → WriteCondition n room NoRoom
+
+-- reading a file into columns with this room
+pub data ReadCondition (l : List ℕ) (room : ℕ) : Refusal → Type 0 where
+  bad-form : (r : Refusal) → FormCondition l r → ReadCondition l room r
+  short-columns : Readable l → room < countIn l → ReadCondition l room NoRoom

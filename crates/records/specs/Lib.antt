@@ -1,0 +1,14 @@
+pub mod Bytes
+pub mod BytesLaws
+pub mod Fields
+pub mod FieldsLaws
+pub mod Files
+pub mod FilesLaws
+pub mod Columns
+pub mod ColumnsLaws
+pub mod Transfer
+pub mod Conditions
+pub mod RefusalLaws
+pub mod RoundTrips
+pub mod RoundTripLaws
+pub mod Code

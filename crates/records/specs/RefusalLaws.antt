@@ -1,0 +1,161 @@
+-- Refusals 11 to 15: each is given exactly under its condition, where none before it holds; and otherwise the file is written or read.
+use mathlib.Core.Path.{_≡_, refl, sym, ap, subst, _∙_}
+use mathlib.Core.Bool.{Bool, true, false, _&&_, false≢true}
+use mathlib.Core.List.{List}
+use Prim.Native.Nat.{ℕ, _+_, _*_, _≤_, _<_}
+use native.Mathlib.Omega.{arith}
+use lib.Dec.{ltb, leb, eqb}
+use lib.ListN.{length}
+use borrow.Author.Tests.{ltb-true, ltb-false, leb-true, leb-false, eqb-true, eqb-false, lt-ltb, le-ltb, le-leb, lt-leb, eq-eqb, ne-eqb}
+use Rattle.arith.specs.TestLaws.{and-both, both-and}
+use Rattle.refusal.specs.declared.Refusal.{Refusal}
+use Rattle.refusal.specs.declared.Refusal.the-variants.{TooManyRecords, NoRoom, NoTrailer, BadRecordLength, BadTrailer}
+use Rattle.records.specs.Fields.{duvWidth, recordLength}
+use Rattle.records.specs.Files.{mostRecords, trailerLength, fileLength, lengthIn, countIn, backIn, formOf}
+use Rattle.records.specs.Transfer.{writeOutcome, readOutcome}
+use Rattle.records.specs.Conditions.{Trailed, Agrees, Readable, FormCondition, no-trailer, bad-length, bad-trailer, too-many, WriteCondition, over-most, short-target, ReadCondition, bad-form, short-columns}
+use Rattle.records.specs.declared.files.Form.{Form}
+use Rattle.records.specs.declared.files.Form.the-variants as form
+use Rattle.records.specs.declared.transfer.Outcome.{Outcome}
+use Rattle.records.specs.declared.transfer.Outcome.the-variants.{Refused, Done}
+
+-- the test of refusal 15, as the definition makes it
+abbrev agrees : List ℕ → Bool
+agrees l = eqb (backIn l) (recordLength duvWidth * countIn l) && eqb (length l) (backIn l + trailerLength)
+
+agrees-true : (l : List ℕ) → Agrees l → agrees l ≡ true
+agrees-true l a = both-and (eq-eqb (backIn l) (recordLength duvWidth * countIn l) (a .back)) (eq-eqb (length l) (backIn l + trailerLength) (a .exact))
+
+true-agrees : (l : List ℕ) → agrees l ≡ true → Agrees l
+true-agrees l e =
+    let k = and-both (eqb (backIn l) (recordLength duvWidth * countIn l)) (eqb (length l) (backIn l + trailerLength)) e in
+    record { back = eqb-true (backIn l) (recordLength duvWidth * countIn l) (k .0); exact = eqb-true (length l) (backIn l + trailerLength) (k .1) }
+
+agrees-false : (l : List ℕ) → (Agrees l → ⊥) → agrees l ≡ false
+agrees-false l h = go (agrees l) refl
+  where
+    go : (b : Bool) → agrees l ≡ b → b ≡ false
+    go true e = absurd (h (true-agrees l e))
+    go false e = refl
+
+-- under its condition a refusal is given
+pub condition-form : (l : List ℕ) (r : Refusal) → FormCondition l r → formOf l ≡ form.Refused r
+unfolding formOf
+condition-form l r (no-trailer h) = rw (lt-ltb (length l) trailerLength h) refl
+condition-form l r (bad-length h w) = rw (le-ltb (length l) trailerLength h, ne-eqb (lengthIn l) (recordLength duvWidth) w) refl
+condition-form l r (bad-trailer t a) =
+    rw (le-ltb (length l) trailerLength (t .long), eq-eqb (lengthIn l) (recordLength duvWidth) (t .width), agrees-false l a) refl
+condition-form l r (too-many t a m) =
+    rw (le-ltb (length l) trailerLength (t .long), eq-eqb (lengthIn l) (recordLength duvWidth) (t .width), agrees-true l a, lt-leb (countIn l) mostRecords m) refl
+
+-- where no condition is met, the form is the count
+pub readable-form : (l : List ℕ) → Readable l → formOf l ≡ form.Records (countIn l)
+unfolding formOf
+readable-form l k =
+    rw (le-ltb (length l) trailerLength (k .trailed .long), eq-eqb (lengthIn l) (recordLength duvWidth) (k .trailed .width), agrees-true l (k .agrees), le-leb (countIn l) mostRecords (k .few)) refl
+
+-- either a refusal's condition is met, or none is
+pub data FormDecided (l : List ℕ) : Type 0 where
+  refusal : (r : Refusal) → FormCondition l r → FormDecided l
+  readable : Readable l → FormDecided l
+
+-- one of the two holds, whatever the bytes
+pub form-decided : (l : List ℕ) → FormDecided l
+form-decided l = go (ltb (length l) trailerLength) (eqb (lengthIn l) (recordLength duvWidth)) (agrees l) (leb (countIn l) mostRecords) refl refl refl refl
+  where
+    trailed : ltb (length l) trailerLength ≡ false → eqb (lengthIn l) (recordLength duvWidth) ≡ true → Trailed l
+    trailed s w = record { long = ltb-false (length l) trailerLength s; width = eqb-true (lengthIn l) (recordLength duvWidth) w }
+
+    disagrees : agrees l ≡ false → Agrees l → ⊥
+    disagrees e a = false≢true (sym e ∙ agrees-true l a)
+
+    go : (a b c d : Bool) → ltb (length l) trailerLength ≡ a → eqb (lengthIn l) (recordLength duvWidth) ≡ b → agrees l ≡ c → leb (countIn l) mostRecords ≡ d → FormDecided l
+    go true b c d s w e m = refusal NoTrailer (no-trailer (ltb-true (length l) trailerLength s))
+    go false false c d s w e m = refusal BadRecordLength (bad-length (ltb-false (length l) trailerLength s) (eqb-false (lengthIn l) (recordLength duvWidth) w))
+    go false true false d s w e m = refusal BadTrailer (bad-trailer (trailed s w) (disagrees e))
+    go false true true false s w e m = refusal TooManyRecords (too-many (trailed s w) (true-agrees l e) (leb-false (countIn l) mostRecords m))
+    go false true true true s w e m = readable (record { trailed = trailed s w; agrees = true-agrees l e; few = leb-true (countIn l) mostRecords m })
+
+-- a refusal that is given has its condition
+pub form-condition : (l : List ℕ) (r : Refusal) → formOf l ≡ form.Refused r → FormCondition l r
+form-condition l r e = go (form-decided l)
+  where
+    go : FormDecided l → FormCondition l r
+    go (refusal t k) = let f = condition-form l t k in let same : t ≡ r = cc in subst (FormCondition l) same k
+    go (readable k) = let f = readable-form l k in let z : _≡_ {A = ℕ} 0 1 = cc in absurd (omega arith)
+
+-- a file that is read is readable, and has as many records as are read
+pub form-readable : (l : List ℕ) (n : ℕ) → formOf l ≡ form.Records n → Readable l × (countIn l ≡ n)
+form-readable l n e = go (form-decided l)
+  where
+    go : FormDecided l → Readable l × (countIn l ≡ n)
+    go (refusal t k) = let f = condition-form l t k in let z : _≡_ {A = ℕ} 0 1 = cc in absurd (omega arith)
+    go (readable k) = let f = readable-form l k in (k, cc)
+
+-- no outcome is both
+refused-done : {A : Type 0} {o : Outcome} {r : Refusal} {n : ℕ} → o ≡ Refused r → o ≡ Done n → A
+refused-done e f = let z : _≡_ {A = ℕ} 0 1 = cc in absurd (omega arith)
+
+-- the writer: both directions, and what it does where no condition is met
+module _ (n room : ℕ) where
+  pub condition-write : (r : Refusal) → WriteCondition n room r → writeOutcome n room ≡ Refused r
+  unfolding writeOutcome
+  condition-write r (over-most h) = rw (lt-leb n mostRecords h) refl
+  condition-write r (short-target h k) = rw (le-leb n mostRecords h, lt-leb (fileLength duvWidth n) room k) refl
+
+  pub clear-write : n ≤ mostRecords → fileLength duvWidth n ≤ room → writeOutcome n room ≡ Done (fileLength duvWidth n)
+  unfolding writeOutcome
+  clear-write h k = rw (le-leb n mostRecords h, le-leb (fileLength duvWidth n) room k) refl
+
+  pub write-condition : (r : Refusal) → writeOutcome n room ≡ Refused r → WriteCondition n room r
+  write-condition r e = go (leb n mostRecords) (leb (fileLength duvWidth n) room) refl refl
+    where
+      given : {t : Refusal} → WriteCondition n room t → WriteCondition n room r
+      given {t} k = let f = condition-write t k in let same : t ≡ r = cc in subst (WriteCondition n room) same k
+
+      go : (a b : Bool) → leb n mostRecords ≡ a → leb (fileLength duvWidth n) room ≡ b → WriteCondition n room r
+      go false b x y = given (over-most (leb-false n mostRecords x))
+      go true false x y = given (short-target (leb-true n mostRecords x) (leb-false (fileLength duvWidth n) room y))
+      go true true x y = refused-done e (clear-write (leb-true n mostRecords x) (leb-true (fileLength duvWidth n) room y))
+
+  -- how many bytes are written
+  pub write-done : (k : ℕ) → writeOutcome n room ≡ Done k → (n ≤ mostRecords) × (fileLength duvWidth n ≤ room) × (k ≡ fileLength duvWidth n)
+  write-done k e = go (leb n mostRecords) (leb (fileLength duvWidth n) room) refl refl
+    where
+      go : (a b : Bool) → leb n mostRecords ≡ a → leb (fileLength duvWidth n) room ≡ b → (n ≤ mostRecords) × (fileLength duvWidth n ≤ room) × (k ≡ fileLength duvWidth n)
+      go false b x y = refused-done (condition-write TooManyRecords (over-most (leb-false n mostRecords x))) e
+      go true false x y = refused-done (condition-write NoRoom (short-target (leb-true n mostRecords x) (leb-false (fileLength duvWidth n) room y))) e
+      go true true x y = let f = clear-write (leb-true n mostRecords x) (leb-true (fileLength duvWidth n) room y) in (leb-true n mostRecords x, leb-true (fileLength duvWidth n) room y, cc)
+
+-- the reader in the same way
+module _ (l : List ℕ) (room : ℕ) where
+  pub condition-read : (r : Refusal) → ReadCondition l room r → readOutcome l room ≡ Refused r
+  unfolding readOutcome
+  condition-read r (bad-form t k) = rw (condition-form l r k) refl
+  condition-read r (short-columns k h) = rw (readable-form l k, lt-leb (countIn l) room h) refl
+
+  pub clear-read : Readable l → countIn l ≤ room → readOutcome l room ≡ Done (countIn l)
+  unfolding readOutcome
+  clear-read k h = rw (readable-form l k, le-leb (countIn l) room h) refl
+
+  pub read-condition : (r : Refusal) → readOutcome l room ≡ Refused r → ReadCondition l room r
+  read-condition r e = go (form-decided l) (leb (countIn l) room) refl
+    where
+      given : {t : Refusal} → ReadCondition l room t → ReadCondition l room r
+      given {t} k = let f = condition-read t k in let same : t ≡ r = cc in subst (ReadCondition l room) same k
+
+      go : FormDecided l → (b : Bool) → leb (countIn l) room ≡ b → ReadCondition l room r
+      go (refusal t k) b x = given (bad-form t k)
+      go (readable k) false x = given (short-columns k (leb-false (countIn l) room x))
+      go (readable k) true x = refused-done e (clear-read k (leb-true (countIn l) room x))
+
+  pub read-done : (n : ℕ) → readOutcome l room ≡ Done n → Readable l × (countIn l ≡ n) × (n ≤ room)
+  read-done n e = go (form-decided l) (leb (countIn l) room) refl
+    where
+      go : FormDecided l → (b : Bool) → leb (countIn l) room ≡ b → Readable l × (countIn l ≡ n) × (n ≤ room)
+      go (refusal t k) b x = refused-done (condition-read t (bad-form t k)) e
+      go (readable k) false x = refused-done (condition-read NoRoom (short-columns k (leb-false (countIn l) room x))) e
+      go (readable k) true x =
+          let f = clear-read k (leb-true (countIn l) room x) in
+          let same : countIn l ≡ n = cc in
+          (k, same, omega (arith, leb-true (countIn l) room x))

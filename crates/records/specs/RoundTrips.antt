@@ -1,0 +1,39 @@
+-- What is written reads back as the same list, and what the reader takes is written again byte for byte (document 02, No. 4): the statements.
+use mathlib.Core.Path.{_≡_}
+use mathlib.Core.List.{List}
+use Prim.Native.Nat.{ℕ}
+use lib.ListN.{length, take}
+use Rattle.records.specs.Fields.{duvWidth}
+use Rattle.records.specs.Files.{fileOf, recordsIn, formOf}
+use Rattle.records.specs.Columns.{Columns, sizeOf, listOf, over, firstRows}
+use Rattle.records.specs.Transfer.{writeOutcome, written, readOutcome, readInto}
+use Rattle.records.specs.declared.fields.Record.{Record}
+use Rattle.records.specs.declared.files.Form.the-variants.{Records}
+use Rattle.records.specs.declared.transfer.Outcome.{Outcome}
+use Rattle.records.specs.declared.transfer.Outcome.the-variants.{Refused, Done}
+
+-- the file of a list is read to the same list
+pub record SameList (rs : List Record) : Type 0 where
+  pub form : formOf (fileOf duvWidth rs) ≡ Records (length rs)
+  pub records : recordsIn duvWidth (length rs) (fileOf duvWidth rs) ≡ rs
+
+-- so it is where the writer has written it
+abbrev pub ReadsBack : Outcome → List Record → Type 0
+ReadsBack (Refused r) rs = Unit
+ReadsBack (Done n) rs = SameList rs
+
+-- a file that the reader takes is that of the records read
+abbrev pub WritesAgain : Outcome → List ℕ → Type 0
+WritesAgain (Refused r) l = Unit
+WritesAgain (Done n) l = fileOf duvWidth (recordsIn duvWidth n l) ≡ l
+
+-- the same through the columns: the list in c, written over a target of old bytes in k bytes, and these read into d, which has room
+pub record ColumnsBack (c d : Columns) (old : List ℕ) (k : ℕ) : Type 0 where
+  pub outcome : readOutcome (take k (written (Done k) (listOf c) old)) (sizeOf d) ≡ Done (sizeOf c)
+  pub list : listOf (firstRows (sizeOf c) (readInto (Done (sizeOf c)) (take k (written (Done k) (listOf c) old)) d)) ≡ listOf c
+
+-- and the file l, read into d as n records, whose rows are written over a target of old bytes, which has room
+pub record FileAgain (l : List ℕ) (d : Columns) (n : ℕ) (old : List ℕ) : Type 0 where
+  pub size : sizeOf (firstRows n (readInto (Done n) l d)) ≡ n
+  pub outcome : writeOutcome n (length old) ≡ Done (length l)
+  pub target : written (Done (length l)) (listOf (firstRows n (readInto (Done n) l d))) old ≡ over l old

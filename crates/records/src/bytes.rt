@@ -1,0 +1,56 @@
+// Numbers in bytes, the lowest byte first.
+ghost use mathlib.Core.Path.{_≡_};
+ghost use Prim.Native.Nat.{_+_, _≤_};
+ghost use lib.ListN.{length, take, drop};
+ghost use lib.Seq.{sets};
+ghost use Rattle.records.specs.Bytes.{bytesOf, number, asUnsigned, asSigned};
+
+// The lowest bytes of n, as many as the width says, from a place of the buffer on.
+pub(crate) fn put_number(n: u32, width: usize, out: &mut [u8], at: usize)
+    requires { ⌜ at + width ≤ length (now out) ⌝ }
+    ensures { λ _. ⌜ now (out .exit) ≡ sets (now (out .entry)) at (bytesOf width n) ⌝ }
+{
+    let mut rest = n;
+    let mut i: usize = 0;
+    while i < width {
+        out[at + i] = (rest % 256) as u8;
+        rest = rest / 256;
+        i += 1;
+    }
+}
+
+// The number in the bytes from a place on, as many as the width says.
+pub(crate) fn number_at(bytes: &[u8], width: usize, at: usize) -> u32
+    requires { ⌜ (width ≤ 4) × (at + width ≤ length (now bytes)) ⌝ }
+    ensures { λ r. ⌜ r ≡ number (take width (drop at (now (bytes .entry)))) ⌝ }
+{
+    let mut n: u32 = 0;
+    let mut i = width;
+    while 0 < i {
+        i -= 1;
+        let byte = bytes[at + i];
+        n = 256 * n + byte as u32;
+    }
+    n
+}
+
+// z as the unsigned number with the same two bytes.
+pub(crate) fn unsigned_of(z: i16) -> u32
+    ensures { λ r. ⌜ r ≡ asUnsigned 2 z ⌝ }
+{
+    if z < 0 {
+        return (65536 + z as i64) as u32;
+    }
+    z as u32
+}
+
+// The signed number with the same two bytes as n.
+pub(crate) fn signed_of(n: u32) -> i16
+    requires { ⌜ n ≤ 65535 ⌝ }
+    ensures { λ r. ⌜ r ≡ asSigned 2 n ⌝ }
+{
+    if n < 32768 {
+        return n as i16;
+    }
+    (n as i64 - 65536) as i16
+}

@@ -1,0 +1,14 @@
+// Records of answered readings in a file (document 02, No. 4).
+mod bytes;
+mod columns;
+mod fields;
+mod files;
+mod transfer;
+
+pub use fields::Record;
+pub use files::Form;
+pub use files::check_form;
+pub use files::record_at;
+pub use transfer::Outcome;
+pub use transfer::read_records;
+pub use transfer::write_records;
