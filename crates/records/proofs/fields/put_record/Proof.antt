@@ -38,34 +38,34 @@ unsigned-of-requires : tie.Need-unsigned-of-requires
 unsigned-of-requires c κs = search needs
 
 put-number-requires : tie.Need-put-number-requires
-put-number-requires c κs = search needs
+put-number-requires c κs = omega (arith, c .before .before .before .before .pre)
 
 add-put-number : tie.Need-add-put-number
-add-put-number c = search needs
+add-put-number c = omega (arith, c .before .before .before .before .before .before .before .before .pre, c .before .before .before .before .before .before .before .before .good)
 
 put-number-requires-2 : tie.Need-put-number-requires-2
-put-number-requires-2 c κs = search needs
+put-number-requires-2 c κs = omega (arith, c .before .before .before .before .before .before .before .before .pre, c .before .before .before .put-number .kept .1 .1 .0)
 
 cast-put-number : tie.Need-cast-put-number
-cast-put-number c = search needs
+cast-put-number c = omega (arith, c .struct-known .given)
 
 add-put-number-2 : tie.Need-add-put-number-2
-add-put-number-2 c = search needs
+add-put-number-2 c = omega (arith, c .before .before .before .before .before .before .before .before .before .before .before .before .before .pre, c .before .before .before .before .before .before .before .before .before .before .before .before .before .good)
 
 put-number-requires-3 : tie.Need-put-number-requires-3
-put-number-requires-3 c κs = search needs
+put-number-requires-3 c κs = omega (arith, c .before .before .before .before .before .before .before .before .before .before .before .before .before .pre, c .before .before .before .before .before .before .before .before .put-number .kept .1 .1 .0, c .before .before .before .before .put-number2 .kept .1 .1 .0)
 
 cast-put-number-2 : tie.Need-cast-put-number-2
-cast-put-number-2 c = search needs
+cast-put-number-2 c = omega (arith, c .struct-known2 .given)
 
 add-put-number-3 : tie.Need-add-put-number-3
-add-put-number-3 c = search needs
+add-put-number-3 c = omega (arith, c .before .before .before .before .before .before .before .before .before .before .before .before .before .before .before .before .before .before .pre, c .before .before .before .before .before .before .before .before .before .before .before .before .before .before .before .before .before .before .good)
 
 put-number-requires-4 : tie.Need-put-number-requires-4
-put-number-requires-4 c κs = search needs
+put-number-requires-4 c κs = omega (arith, c .before .before .before .before .before .before .before .before .before .before .before .before .before .before .before .before .before .before .pre, c .before .before .before .before .before .before .before .before .before .before .before .before .before .put-number .kept .1 .1 .0, c .before .before .before .before .before .before .before .before .before .put-number2 .kept .1 .1 .0, c .before .before .before .before .put-number3 .kept .1 .1 .0)
 
 cast-put-number-3 : tie.Need-cast-put-number-3
-cast-put-number-3 c = search needs
+cast-put-number-3 c = omega (arith, c .struct-known3 .given)
 
 add-put-number-4 : tie.Need-add-put-number-4
 add-put-number-4 c = omega (arith, c .before .before .before .before .before .before .before .before .before .before .before .before .before .before .before .before .before .before .before .before .before .before .before .pre, c .before .before .before .before .before .before .before .before .before .before .before .before .before .before .before .before .before .before .before .before .before .before .before .good)
@@ -80,7 +80,7 @@ put-number-requires-6 : tie.Need-put-number-requires-6
 put-number-requires-6 c κs = omega (arith, c .before .before .before .before .before .before .before .before .before .before .before .before .before .before .before .before .before .before .before .before .before .before .before .before .before .before .before .pre, c .before .before .before .before .before .before .before .before .before .before .before .before .before .before .before .before .before .before .before .before .before .before .put-number .kept .1 .1 .0, c .before .before .before .before .before .before .before .before .before .before .before .before .before .before .before .before .before .before .put-number2 .kept .1 .1 .0, c .before .before .before .before .before .before .before .before .before .before .before .before .before .put-number3 .kept .1 .1 .0, c .before .before .before .before .before .before .before .before .put-number4 .kept .1 .1 .0, c .before .before .before .put-number5 .kept .1 .1 .0)
 
 cast-put-number-4 : tie.Need-cast-put-number-4
-cast-put-number-4 c = search needs
+cast-put-number-4 c = omega (arith, c .struct-known4 .given)
 
 add-put-number-6 : tie.Need-add-put-number-6
 add-put-number-6 c = omega (arith, c .before .before .before .before .before .before .before .before .before .before .before .before .before .before .before .before .before .before .before .before .before .before .before .before .before .before .before .before .before .before .before .before .pre, c .before .before .before .before .before .before .before .before .before .before .before .before .before .before .before .before .before .before .before .before .before .before .before .before .before .before .before .before .before .before .before .before .good)
@@ -89,7 +89,7 @@ put-number-requires-7 : tie.Need-put-number-requires-7
 put-number-requires-7 c κs = omega (arith, c .before .before .before .before .before .before .before .before .before .before .before .before .before .before .before .before .before .before .before .before .before .before .before .before .before .before .before .before .before .before .before .before .pre, c .before .before .before .before .before .before .before .before .before .before .before .before .before .before .before .before .before .before .before .before .before .before .before .before .before .before .before .put-number .kept .1 .1 .0, c .before .before .before .before .before .before .before .before .before .before .before .before .before .before .before .before .before .before .before .before .before .before .before .put-number2 .kept .1 .1 .0, c .before .before .before .before .before .before .before .before .before .before .before .before .before .before .before .before .before .before .put-number3 .kept .1 .1 .0, c .before .before .before .before .before .before .before .before .before .before .before .before .before .put-number4 .kept .1 .1 .0, c .before .before .before .before .before .before .before .before .put-number5 .kept .1 .1 .0, c .before .before .before .before .put-number6 .kept .1 .1 .0)
 
 cast-put-number-5 : tie.Need-cast-put-number-5
-cast-put-number-5 c = search needs
+cast-put-number-5 c = omega (arith, c .struct-known5 .given)
 
 add-put-number-7 : tie.Need-add-put-number-7
 add-put-number-7 c = omega (arith, c .before .before .before .before .before .before .before .before .before .before .before .before .before .before .before .before .before .before .before .before .before .before .before .before .before .before .before .before .before .before .before .before .before .before .before .before .before .pre, c .before .before .before .before .before .before .before .before .before .before .before .before .before .before .before .before .before .before .before .before .before .before .before .before .before .before .before .before .before .before .before .before .before .before .before .before .before .good)
