@@ -24,10 +24,12 @@ use Rattle.cct.specs.Answers.{duvAt, accepted, answer}
 use Rattle.cct.specs.Conditions.{Clear}
 use Rattle.cct.specs.RefusalLaws.{Decided, refusal, clear, decided, condition-refused, clear-accepted}
 
--- a place of the locus, and a Duv no farther than the limit of refusal 5
+-- a place and a bracket of the locus, and a Duv no farther than the limit of refusal 5
 pub record Bounded (a : Answer) : Type 0 where
   pub from : firstPlace ≤ a .place
   pub to : a .place ≤ lastPlace
+  pub low : a .low ≤ lastPlace
+  pub high : a .high ≤ lastPlace
   pub duv : natAbs (a .duv) * natAbs (a .duv) ≤ limit
 
 sign-size : (b : Bool) (r : ℕ) → natAbs (cond b (pos r) (negℤ (pos r))) ≡ r
@@ -49,7 +51,7 @@ accepted-bounded es c u v n k =
     let i = after-range (distanceAt u v) m (r .0) (r .1) (stepsOf n) (omega arith) in
     let f = after-near (distanceAt u v) m (r .0) (r .1) (stepsOf n) (omega arith) in
     let near : entryDistance u v m ≤ limit = ltb-false limit (entryDistance u v m) (k .near) in
-    record { from = i .best-low; to = i .best-high; duv = duv-near u v (after (distanceAt u v) m (stepsOf n) .best) (omega (arith, entry-distance u v m (r .0) (r .1))) }
+    record { from = i .best-low; to = i .best-high; low = omega (arith, i .order, i .high); high = i .high; duv = duv-near u v (after (distanceAt u v) m (stepsOf n) .best) (omega (arith, entry-distance u v m (r .0) (r .1))) }
 
 -- every accepted answer lies there
 pub answer-bounded : (es : List ℕ) (c : Converted) (n : ℕ) → answer es c n .refusal ≡ 0 → Bounded (answer es c n)

@@ -1,0 +1,34 @@
+-- A record's numbers through the casts that the code makes, where they fit.
+use mathlib.Core.Path.{_≡_, refl, ap, sym, _∙_}
+use mathlib.Core.Bool.{true, false, _&&_}
+use Prim.Native.Nat.{ℕ, _≤_}
+use native.Mathlib.Omega.{arith}
+use lib.Dec.{leb, eqb}
+use lib.IntN.{ℤ, pos, negsuc, natAbs}
+use borrow.Author.Tests.{leb-true, eq-eqb, ne-eqb}
+use mir.Syntax.{w16}
+use mir.Val.{SFits}
+use Rattle.arith.specs.TestLaws.{and-both}
+use Rattle.records.specs.declared.fields.Record.{Record}
+use Rattle.cct.specs.declared.Answer.{Answer}
+use Rattle.kept.specs.Keeping.{recordOf, fitsRecord, keep}
+use Rattle.kept.specs.KeepingLaws.{Fits, fits-true}
+use Rattle.kept.specs.declared.Kept.{Kept}
+use Rattle.kept.specs.declared.Kept.the-variants as is
+
+pub narrow-duv : (z : ℤ) → natAbs z ≤ 32767 → SFits w16 z
+narrow-duv (pos n) h = record { sfits = omega arith }
+narrow-duv (negsuc n) h = record { sfits = omega arith }
+
+module _ (u v : ℕ) (a : Answer) where
+  pub not-accepted : (a .refusal ≡ 0 → ⊥) → is.NotKept ≡ keep u v a
+  unfolding keep
+  not-accepted h = rw (ne-eqb (a .refusal) 0 h) refl
+
+  pub not-fitting : a .refusal ≡ 0 → fitsRecord a ≡ false → is.NotKept ≡ keep u v a
+  unfolding keep
+  not-fitting e f = rw (eq-eqb (a .refusal) 0 e, f) refl
+
+  pub fitting : (r : Record) → a .refusal ≡ 0 → fitsRecord a ≡ true → r ≡ recordOf u v a → is.Kept r ≡ keep u v a
+  unfolding keep
+  fitting r e f g = ap is.Kept g ∙ rw (eq-eqb (a .refusal) 0 e, f) refl
