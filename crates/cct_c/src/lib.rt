@@ -1,4 +1,6 @@
 // The C ABI of the library: one function for each entry point, declared in include/cradlekeel.h.
+mod files;
+
 use cct::FloatAnswer;
 use reading::Reading;
 ghost use mathlib.Core.Path.{_≡_};

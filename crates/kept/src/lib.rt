@@ -37,16 +37,14 @@ pub fn record_of(u: u32, v: u32, answer: Answer) -> Kept
     if !fits_record(answer) {
         return Kept::NotKept;
     }
-    Kept::Kept(
-        Record {
-            u: u,
-            v: v,
-            place: answer.place as u16,
-            low: answer.low as u16,
-            high: answer.high as u16,
-            duv: answer.duv as i16,
-            steps: answer.steps,
-            class: answer.class,
-        },
-    )
+    Kept::Kept(Record {
+        u: u,
+        v: v,
+        place: answer.place as u16,
+        low: answer.low as u16,
+        high: answer.high as u16,
+        duv: answer.duv as i16,
+        steps: answer.steps,
+        class: answer.class,
+    })
 }

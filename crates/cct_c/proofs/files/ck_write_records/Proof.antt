@@ -1,0 +1,29 @@
+-- `ck_write_records` meets its contract: it does what `write_records` does.
+use mathlib.Core.Path.{refl, ap, _∙_}
+use Rattle.records.specs.Columns.{columns, listOf}
+use Rattle.records.specs.Transfer.{written}
+use Rattle.records.specs.declared.transfer.Outcome.{Outcome}
+use Rattle.cct_c.specs.Plain.{plainOutcome}
+use borrow.Author.Needs.{needs}
+use Rattle.cct_c.proofs.files.ck_write_records.Statement.{statement}
+use Rattle.cct_c.proofs.files.ck_write_records.Tie as tie
+
+write-records-requires : tie.Need-write-records-requires
+write-records-requires c κs = search needs
+
+plain-outcome-requires : tie.Need-plain-outcome-requires
+plain-outcome-requires c κs = search needs
+
+same-length : tie.Need-same-length
+same-length c = c .before .before .before .write-records .kept .1 .1 .1 .1 .1 .1 .1 .1 .0
+
+returns : tie.Need-returns
+returns c =
+    let done = c .before .before .before .write-records .ensures in (
+      c .plain-outcome .ensures ∙ ap plainOutcome (done .0),
+      (done .1 .0 ∙ ap (λ (o : Outcome). written o (listOf (columns (c .before .before .before .before .before .before .before .before .before .before .before .before .before .args .u .now) (c .before .before .before .before .before .before .before .before .before .before .before .before .before .args .v .now) (c .before .before .before .before .before .before .before .before .before .before .before .before .before .args .place .now) (c .before .before .before .before .before .before .before .before .before .before .before .before .before .args .low .now) (c .before .before .before .before .before .before .before .before .before .before .before .before .before .args .high .now) (c .before .before .before .before .before .before .before .before .before .before .before .before .before .args .duv .now) (c .before .before .before .before .before .before .before .before .before .before .before .before .before .args .steps .now) (c .before .before .before .before .before .before .before .before .before .before .before .before .before .args .class .now))) (c .before .before .before .before .before .before .before .before .before .before .before .before .before .args .file .now)) (done .0), refl),
+    )
+
+pub ck-write-records-spec : {M : Type 1} → statement M
+ck-write-records-spec =
+    tie.close (tie.spec write-records-requires plain-outcome-requires same-length returns)
