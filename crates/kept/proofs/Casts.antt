@@ -1,18 +1,15 @@
 -- A record's numbers through the casts that the code makes, where they fit.
-use mathlib.Core.Path.{_≡_, refl, ap, sym, _∙_}
-use mathlib.Core.Bool.{true, false, _&&_}
+use mathlib.Core.Path.{_≡_, refl, ap, _∙_}
+use mathlib.Core.Bool.{true, false}
 use Prim.Native.Nat.{ℕ, _≤_}
 use native.Mathlib.Omega.{arith}
-use lib.Dec.{leb, eqb}
 use lib.IntN.{ℤ, pos, negsuc, natAbs}
-use borrow.Author.Tests.{leb-true, eq-eqb, ne-eqb}
+use borrow.Author.Tests.{eq-eqb, ne-eqb}
 use mir.Syntax.{w16}
 use mir.Val.{SFits}
-use Rattle.arith.specs.TestLaws.{and-both}
 use Rattle.records.specs.declared.fields.Record.{Record}
 use Rattle.cct.specs.declared.Answer.{Answer}
 use Rattle.kept.specs.Keeping.{recordOf, fitsRecord, keep}
-use Rattle.kept.specs.KeepingLaws.{Fits, fits-true}
 use Rattle.kept.specs.declared.Kept.{Kept}
 use Rattle.kept.specs.declared.Kept.the-variants as is
 

@@ -16,7 +16,7 @@ use Rattle.locus.specs.Admission.{limit}
 use Rattle.reading.specs.declared.Converted.{Converted}
 use Rattle.cct.specs.declared.Answer.{Answer}
 use Rattle.cct.specs.Answers.{answer}
-use Rattle.cct.specs.AnswerLaws.{Bounded, answer-bounded}
+use Rattle.cct.specs.AnswerLaws.{answer-bounded}
 use Rattle.kept.specs.Keeping.{recordOf, fitsRecord, keep}
 use Rattle.kept.specs.declared.Kept.the-variants as is
 

@@ -1,7 +1,7 @@
 -- A number's bytes as a loop stores and reads them, one at a time.
 use mathlib.Core.Path.{_≡_, refl, ap, sym, _∙_}
 use Prim.Native.Nat.{ℕ, zero, suc, _+_, _-_, _*_, _/_, _%_, _≤_, _<_}
-use mathlib.Core.List.{List, [], _∷_, _++_}
+use mathlib.Core.List.{List}
 use native.Mathlib.Omega.{arith}
 use lib.ListN.{length, take, drop, getD, set}
 use lib.Seq.{sets, drop-cons, drop-drop}
@@ -11,7 +11,6 @@ use mir.Val.{Fits}
 use Rattle.records.specs.Bytes.{bytesOf, number, capacity, asSigned}
 use Rattle.records.specs.BytesLaws.{Bytes, bytes-drop, number-fits}
 use Rattle.records.specs.Fields.{duvWidth, frontRecord}
-use Rattle.records.specs.declared.fields.Record.{Record}
 
 -- with one byte stored, what is left to store comes to the same
 pub put-step : (out : List ℕ) (at i width rest : ℕ) → i < width → sets (set out (at + i) (rest % 256)) (at + (i + 1)) (bytesOf (width - (i + 1)) (rest / 256)) ≡ sets out (at + i) (bytesOf (width - i) rest)

@@ -4,7 +4,7 @@ use Prim.Native.Nat.{ℕ, _+_, _*_, _≤_, _<_}
 use mathlib.Core.List.{List, [], _∷_, _++_}
 use native.Mathlib.Omega.{arith}
 use native.Mathlib.Numerals.{add-one}
-use lib.ListN.{length, drop}
+use lib.ListN.{drop}
 use Rattle.records.specs.Fields.{duvWidth, frontRecord}
 use Rattle.records.specs.Files.{recordsIn}
 use Rattle.records.specs.FilesLaws.{length-records-in, records-append}

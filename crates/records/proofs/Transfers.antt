@@ -1,5 +1,5 @@
 -- The writer and the reader, by the tests that the code makes and the functions that it calls.
-use mathlib.Core.Path.{_≡_, refl, ap, sym, subst, _∙_}
+use mathlib.Core.Path.{_≡_, ap, sym, subst, _∙_}
 use Prim.Native.Nat.{ℕ, _+_, _*_, _≤_, _<_, min}
 use mathlib.Core.List.{List, _++_}
 use native.Mathlib.Omega.{arith}
@@ -9,7 +9,7 @@ use Rattle.refusal.specs.declared.Refusal.{Refusal}
 use Rattle.refusal.specs.declared.Refusal.the-variants.{TooManyRecords, NoRoom}
 use Rattle.records.specs.BytesLaws.{Bytes}
 use Rattle.records.specs.Fields.{duvWidth}
-use Rattle.records.specs.Files.{trailerBytes, recordsBytes, fileOf, recordsIn, countIn, formOf}
+use Rattle.records.specs.Files.{trailerBytes, recordsBytes, fileOf, recordsIn, formOf}
 use Rattle.records.specs.FilesLaws.{AllNarrow, length-file, length-records-bytes}
 use Rattle.records.specs.Columns.{Columns, sizeOf, rows, listOf, over}
 use Rattle.records.specs.ColumnsLaws.{length-rows, length-list}

@@ -1,8 +1,8 @@
 -- A list of records as eight columns, one for each field. Definitions only.
-use Prim.Native.Nat.{ℕ, zero, suc, _+_, min}
+use Prim.Native.Nat.{ℕ, zero, suc, min}
 use mathlib.Core.List.{List, [], _∷_, _++_, map}
 use lib.IntN.{ℤ, pos}
-use lib.ListN.{length, take, drop, getD, set}
+use lib.ListN.{length, take, drop, getD}
 use Rattle.records.specs.declared.fields.Record.{Record}
 
 pub record Columns : Type 0 where

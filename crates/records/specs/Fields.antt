@@ -2,7 +2,7 @@
 use Prim.Native.Nat.{ℕ, _+_}
 use mathlib.Core.List.{List, [], _∷_}
 use lib.ListN.{getD}
-use Rattle.records.specs.Bytes.{asUnsigned, asSigned, pack, unpack, totalOf}
+use Rattle.records.specs.Bytes.{asUnsigned, asSigned, pack, unpack}
 use Rattle.records.specs.declared.fields.Record.{Record}
 
 -- Duv has 2 bytes.

@@ -1,11 +1,11 @@
 -- Laws of a record's bytes: they are as many as its widths say, and a record comes back from them, as they do from a record.
 use Prim.Native.Nat.{ℕ, suc, _≤_, _<_}
-use mathlib.Core.Path.{_≡_, refl, ap, _∙_}
+use mathlib.Core.Path.{_≡_, ap, _∙_}
 use mathlib.Core.List.{List, [], _∷_, _++_}
 use native.Mathlib.Omega.{arith}
 use lib.IntN.{ℤ}
 use lib.ListN.{length, length-append, take}
-use Rattle.records.specs.Bytes.{bytesOf, capacity, asUnsigned, asSigned, pack, unpack, totalOf}
+use Rattle.records.specs.Bytes.{bytesOf, capacity, asUnsigned, asSigned, pack, totalOf}
 use Rattle.records.specs.BytesLaws.{Fit, none, next, Bytes, Holds, length-bytes, signed-unsigned, unsigned-fits, unsigned-signed, signed-holds, unpack-pack, pack-unpack, unpack-fits}
 use Rattle.records.specs.Fields.{fieldWidths, recordLength, numbersOf, ofNumbers, recordBytes, frontRecord}
 use Rattle.records.specs.declared.fields.Record.{Record}

@@ -1,17 +1,15 @@
 -- Laws of files: how long they are, which record is which, and that the records come back from a file, as a file does from its records.
-use Prim.Native.Nat.{ℕ, zero, suc, _+_, _-_, _*_, _/_, _≤_, _<_}
+use Prim.Native.Nat.{ℕ, zero, suc, _+_, _*_, _≤_, _<_}
 use mathlib.Core.Path.{_≡_, refl, ap, sym, _∙_}
 use mathlib.Core.List.{List, [], _∷_, _++_, append-assoc, append-nil}
 use native.Mathlib.Omega.{arith}
 use native.Mathlib.Nat.{mul-suc, add-comm}
-use lib.ListN.{length, take, drop, getD, length-append, length-drop, take-append-drop}
-use lib.Seq.{take-all, take-add, drop-at, drop-drop}
-use borrow.Author.Tests.{lt-ltb}
-use Rattle.records.specs.Bytes.{pack, unpack}
-use Rattle.records.specs.BytesLaws.{Bytes, bytes-drop, unpack-pack, pack-unpack}
+use lib.ListN.{length, take, drop, getD, length-append, length-drop}
+use lib.Seq.{take-add, drop-at, drop-drop}
+use Rattle.records.specs.BytesLaws.{Bytes, bytes-drop}
 use Rattle.records.specs.Fields.{recordLength, recordBytes, frontRecord}
 use Rattle.records.specs.FieldsLaws.{Narrow, length-record, front-record, record-front}
-use Rattle.records.specs.Files.{trailerWidths, trailerBytes, recordsBytes, fileOf, fileLength, recordsIn, zeroRecord, recordAt}
+use Rattle.records.specs.Files.{trailerBytes, recordsBytes, fileOf, fileLength, recordsIn, zeroRecord}
 use Rattle.records.specs.declared.fields.Record.{Record}
 
 -- each number of each record is no wider than its field

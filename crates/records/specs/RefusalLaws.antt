@@ -1,8 +1,8 @@
 -- Refusals 11 to 15: each is given exactly under its condition, where none before it holds; and otherwise the file is written or read.
-use mathlib.Core.Path.{_≡_, refl, sym, ap, subst, _∙_}
+use mathlib.Core.Path.{_≡_, refl, sym, subst, _∙_}
 use mathlib.Core.Bool.{Bool, true, false, _&&_, false≢true}
 use mathlib.Core.List.{List}
-use Prim.Native.Nat.{ℕ, _+_, _*_, _≤_, _<_}
+use Prim.Native.Nat.{ℕ, _+_, _*_, _≤_}
 use native.Mathlib.Omega.{arith}
 use lib.Dec.{ltb, leb, eqb}
 use lib.ListN.{length}
@@ -14,7 +14,6 @@ use Rattle.records.specs.Fields.{duvWidth, recordLength}
 use Rattle.records.specs.Files.{mostRecords, trailerLength, fileLength, lengthIn, countIn, backIn, formOf}
 use Rattle.records.specs.Transfer.{writeOutcome, readOutcome}
 use Rattle.records.specs.Conditions.{Trailed, Agrees, Readable, FormCondition, no-trailer, bad-length, bad-trailer, too-many, WriteCondition, over-most, short-target, ReadCondition, bad-form, short-columns}
-use Rattle.records.specs.declared.files.Form.{Form}
 use Rattle.records.specs.declared.files.Form.the-variants as form
 use Rattle.records.specs.declared.transfer.Outcome.{Outcome}
 use Rattle.records.specs.declared.transfer.Outcome.the-variants.{Refused, Done}

@@ -1,20 +1,21 @@
 -- What is written reads back as the same list, and what the reader takes is written again byte for byte: the proofs.
-use mathlib.Core.Path.{_≡_, refl, sym, ap, subst, _∙_}
-use mathlib.Core.List.{List, [], _∷_, _++_, append-nil}
-use Prim.Native.Nat.{ℕ, zero, suc, _+_, _-_, _*_, _≤_, _<_, min}
+use mathlib.Core.Path.{_≡_, refl, sym, ap, _∙_}
+use mathlib.Core.List.{List, [], _∷_, append-nil}
+use Prim.Native.Nat.{ℕ, _-_, _*_, _/_, _≤_, _<_}
 use native.Mathlib.Omega.{arith}
 use lib.ListN.{length, take, drop, getD, length-append, length-drop, take-append-drop}
-use lib.Seq.{take-all, take-at, drop-at, getD-take, length-take-le}
+use lib.Seq.{take-all, take-at, drop-at}
+use borrow.Author.Tests.{lt-ltb, le-ltb}
 use Rattle.records.specs.Bytes.{pack, unpack}
 use Rattle.records.specs.BytesLaws.{Fit, none, next, Bytes, bytes-drop, unpack-pack, pack-unpack}
 use Rattle.records.specs.Fields.{duvWidth, recordLength}
-use Rattle.records.specs.Files.{mostRecords, trailerWidths, trailerLength, trailerBytes, recordsBytes, fileOf, fileLength, recordsIn, zeroRecord, trailerNumbers, countIn, formOf}
-use Rattle.records.specs.FilesLaws.{AllNarrow, length-file, length-records-bytes, length-records-in, records-back, bytes-back}
-use Rattle.records.specs.Columns.{Columns, sizeOf, rowAt, rows, listOf, over, filled, firstRows}
+use Rattle.records.specs.Files.{mostRecords, trailerWidths, trailerLength, trailerBytes, recordsBytes, fileOf, fileLength, recordsIn, zeroRecord, recordAt, trailerNumbers, countIn}
+use Rattle.records.specs.FilesLaws.{AllNarrow, length-file, length-records-in, record-in, records-back, bytes-back}
+use Rattle.records.specs.Columns.{Columns, sizeOf, rows, listOf, over, filled, firstRows}
 use Rattle.records.specs.ColumnsLaws.{length-list, filled-level, level-size, filled-rows, first-size, first-list}
-use Rattle.records.specs.Transfer.{writeOutcome, written, readOutcome, readInto}
+use Rattle.records.specs.Transfer.{writeOutcome, written, readOutcome}
 use Rattle.records.specs.Conditions.{Readable}
-use Rattle.records.specs.RefusalLaws.{readable-form, form-readable, clear-write, write-done, clear-read, read-done}
+use Rattle.records.specs.RefusalLaws.{readable-form, clear-write, write-done, clear-read, read-done}
 use Rattle.records.specs.RoundTrips.{SameList, ColumnsBack, FileAgain}
 use Rattle.records.specs.declared.fields.Record.{Record}
 use Rattle.records.specs.declared.files.Form.the-variants.{Records}
@@ -69,6 +70,19 @@ written-read l b k =
     = ap (pack trailerWidths) (sym numbers) ∙ pack-unpack trailerWidths (drop at l) (omega arith) (bytes-drop at l b)
     ∙ take-all trailerLength (drop at l) (omega arith) ∙ ap (λ (m : ℕ). drop m l) begins in
     rw (bytes-back duvWidth n l (omega (arith, end)) b, length-records-in duvWidth n l, trailer) (take-append-drop (recordLength duvWidth * n) l)
+
+-- record i of a file that can be read is element i of its list, and beyond the list there are zeros
+pub readable-record : (l : List ℕ) (i : ℕ) → Readable l → i < countIn l → recordAt duvWidth l i ≡ getD (recordsIn duvWidth (countIn l) l) i zeroRecord
+unfolding recordAt
+readable-record l i k h =
+    let whole : i < length l / recordLength duvWidth = omega (arith, k .agrees .exact, k .agrees .back) in
+    rw (lt-ltb i (length l / recordLength duvWidth) whole) (sym (record-in duvWidth (countIn l) i l h))
+
+pub readable-beyond : (l : List ℕ) (i : ℕ) → Readable l → countIn l ≤ i → recordAt duvWidth l i ≡ zeroRecord
+unfolding recordAt
+readable-beyond l i k h =
+    let none-whole : length l / recordLength duvWidth ≤ i = omega (arith, k .agrees .exact, k .agrees .back) in
+    rw (le-ltb i (length l / recordLength duvWidth) none-whole) refl
 
 -- records read into columns that have room are the list in their first rows
 first-filled : (rs : List Record) (d : Columns) (n : ℕ) → length rs ≡ n → n ≤ sizeOf d → (n ≤ sizeOf (filled rs d)) × (listOf (firstRows n (filled rs d)) ≡ rs)

@@ -3,11 +3,10 @@ use Prim.Native.Nat.{ℕ}
 use mathlib.Core.Bool.{cond}
 use mathlib.Core.List.{List}
 use lib.Dec.{leb}
-use lib.ListN.{length}
 use Rattle.refusal.specs.declared.Refusal.the-variants.{TooManyRecords, NoRoom}
 use Rattle.records.specs.Fields.{duvWidth}
 use Rattle.records.specs.Files.{mostRecords, fileOf, fileLength, recordsIn, formOf}
-use Rattle.records.specs.Columns.{Columns, sizeOf, over, filled}
+use Rattle.records.specs.Columns.{Columns, over, filled}
 use Rattle.records.specs.declared.fields.Record.{Record}
 use Rattle.records.specs.declared.files.Form.{Form}
 use Rattle.records.specs.declared.files.Form.the-variants as form

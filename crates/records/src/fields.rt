@@ -7,7 +7,7 @@ ghost use mathlib.Core.Path.{_≡_};
 ghost use Prim.Native.Nat.{_+_, _≤_};
 ghost use lib.ListN.{length, drop};
 ghost use lib.Seq.{sets};
-ghost use Rattle.records.specs.Fields.{duvWidth, recordBytes, frontRecord};
+ghost use Rattle.records.specs.Fields.{duvWidth, recordLength, recordBytes, frontRecord};
 ghost use Rattle.records.specs.FieldsLaws.{Narrow};
 
 // A reading's u and v in micro and its answer; every number is as wide as its field in a file.
@@ -31,7 +31,7 @@ pub(crate) const RECORD_LENGTH: usize = 18;
 
 // A record's bytes, from a place of the buffer on.
 pub(crate) fn put_record(r: Record, out: &mut [u8], at: usize)
-    requires { ⌜ at + 18 ≤ length (now out) ⌝ }
+    requires { ⌜ at + recordLength duvWidth ≤ length (now out) ⌝ }
     ensures bytes { λ _. ⌜ now (out .exit) ≡ sets (now (out .entry)) at (recordBytes duvWidth r) ⌝ }
     ensures narrow { λ _. ⌜ Narrow duvWidth r ⌝ }
 {
@@ -48,7 +48,7 @@ pub(crate) fn put_record(r: Record, out: &mut [u8], at: usize)
 
 // The record in the bytes from a place on.
 pub(crate) fn record_from(bytes: &[u8], at: usize) -> Record
-    requires { ⌜ at + 18 ≤ length (now bytes) ⌝ }
+    requires { ⌜ at + recordLength duvWidth ≤ length (now bytes) ⌝ }
     ensures { λ r. ⌜ r ≡ frontRecord duvWidth (drop at (now (bytes .entry))) ⌝ }
 {
     let u = number_at(bytes, 4, at);

@@ -10,7 +10,7 @@ ghost use Prim.Native.Nat.{_+_, _≤_};
 ghost use lib.ListN.{length};
 ghost use lib.Seq.{sets};
 ghost use Rattle.records.specs.Fields.{duvWidth};
-ghost use Rattle.records.specs.Files.{trailerBytes, recordAt, trailerForm, formOf, zeroRecord};
+ghost use Rattle.records.specs.Files.{mostRecords, trailerLength, trailerBytes, recordAt, trailerForm, formOf};
 
 // The most records of a file.
 pub(crate) const MOST_RECORDS: usize = 3600;
@@ -26,7 +26,7 @@ pub enum Form {
 
 // The trailer of n records, from a place of the buffer on.
 pub(crate) fn put_trailer(n: usize, out: &mut [u8], at: usize)
-    requires { ⌜ (n ≤ 3600) × (at + 8 ≤ length (now out)) ⌝ }
+    requires { ⌜ (n ≤ mostRecords) × (at + trailerLength ≤ length (now out)) ⌝ }
     ensures { λ _. ⌜ now (out .exit) ≡ sets (now (out .entry)) at (trailerBytes duvWidth n) ⌝ }
 {
     put_number(RECORD_LENGTH as u32, 2, out, at);

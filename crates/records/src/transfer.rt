@@ -15,7 +15,7 @@ ghost use mathlib.Core.Path.{_≡_};
 ghost use Prim.Native.Nat.{_+_, _*_, _≤_};
 ghost use lib.ListN.{length};
 ghost use lib.Seq.{sets};
-ghost use Rattle.records.specs.Fields.{duvWidth};
+ghost use Rattle.records.specs.Fields.{duvWidth, recordLength};
 ghost use Rattle.records.specs.Files.{recordsBytes, recordsIn};
 ghost use Rattle.records.specs.FilesLaws.{AllNarrow};
 ghost use Rattle.records.specs.Columns.{columns, sizeOf, rows, listOf, filled};
@@ -41,7 +41,7 @@ fn put_rows(
     class: &[u8],
     out: &mut [u8],
 )
-    requires { ⌜ (n ≤ sizeOf (columns (now u) (now v) (now place) (now low) (now high) (now duv) (now steps) (now class))) × (18 * n ≤ length (now out)) ⌝ }
+    requires { ⌜ (n ≤ sizeOf (columns (now u) (now v) (now place) (now low) (now high) (now duv) (now steps) (now class))) × (recordLength duvWidth * n ≤ length (now out)) ⌝ }
     ensures bytes { λ _. ⌜ now (out .exit) ≡ sets (now (out .entry)) 0 (recordsBytes duvWidth (rows (columns (now (u .entry)) (now (v .entry)) (now (place .entry)) (now (low .entry)) (now (high .entry)) (now (duv .entry)) (now (steps .entry)) (now (class .entry))) n)) ⌝ }
     ensures narrow { λ _. ⌜ AllNarrow duvWidth (rows (columns (now (u .entry)) (now (v .entry)) (now (place .entry)) (now (low .entry)) (now (high .entry)) (now (duv .entry)) (now (steps .entry)) (now (class .entry))) n) ⌝ }
 {
@@ -106,7 +106,7 @@ fn fill_rows(
     steps: &mut [u8],
     class: &mut [u8],
 )
-    requires { ⌜ (n ≤ sizeOf (columns (now u) (now v) (now place) (now low) (now high) (now duv) (now steps) (now class))) × (18 * n ≤ length (now file)) ⌝ }
+    requires { ⌜ (n ≤ sizeOf (columns (now u) (now v) (now place) (now low) (now high) (now duv) (now steps) (now class))) × (recordLength duvWidth * n ≤ length (now file)) ⌝ }
     ensures { λ _. ⌜ columns (now (u .exit)) (now (v .exit)) (now (place .exit)) (now (low .exit)) (now (high .exit)) (now (duv .exit)) (now (steps .exit)) (now (class .exit)) ≡ filled (recordsIn duvWidth n (now (file .entry))) (columns (now (u .entry)) (now (v .entry)) (now (place .entry)) (now (low .entry)) (now (high .entry)) (now (duv .entry)) (now (steps .entry)) (now (class .entry))) ⌝ }
 {
     let mut i: usize = 0;

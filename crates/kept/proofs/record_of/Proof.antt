@@ -1,12 +1,11 @@
 -- `record_of` meets its contract: the casts keep each number, which fits.
-use mathlib.Core.Path.{_≡_, refl, sym, ap, _∙_}
+use mathlib.Core.Path.{_≡_, sym, ap, _∙_}
 use native.Mathlib.Omega.{arith}
 use borrow.Author.Tests.{not-true, not-false}
 use lib.IntN.{ℤ}
 use mir.Syntax.{w16, w32}
 use mir.Val.{SFits}
 use Rattle.arith.specs.SignedLaws.{read, back}
-use Rattle.kept.specs.Keeping.{recordOf}
 use Rattle.kept.specs.KeepingLaws.{Fits, fits-true}
 use Rattle.kept.proofs.Casts.{narrow-duv, not-accepted, not-fitting, fitting}
 use borrow.Author.Needs.{needs}

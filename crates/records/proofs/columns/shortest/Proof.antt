@@ -1,5 +1,4 @@
 -- `shortest` meets its contract: the lesser of two lengths, seven times.
-use mathlib.Core.Path.{_≡_, ap, _∙_}
 use borrow.Author.Needs.{needs}
 use Rattle.records.proofs.columns.shortest.Statement.{statement}
 use Rattle.records.proofs.columns.shortest.Tie as tie

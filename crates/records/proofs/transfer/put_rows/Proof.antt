@@ -1,5 +1,4 @@
 -- `put_rows` meets its contract: at each turn the bytes of the rows so far are stored.
-use borrow.Author.Needs.{needs}
 use Prim.Native.Nat.{ℕ, _-_, _≤_}
 use mathlib.Core.Path.{_≡_, refl, ap, subst, _∙_}
 use native.Mathlib.Omega.{arith}

@@ -1,5 +1,5 @@
 -- `read_records` meets its contract: the form, the room, then the rows, by the laws of Transfers.
-use mathlib.Core.Path.{_≡_, refl, sym, ap, _∙_}
+use mathlib.Core.Path.{_≡_, refl, sym, _∙_}
 use native.Mathlib.Omega.{arith}
 use Rattle.records.specs.Columns.{Columns, columns, sizeOf}
 use Rattle.records.specs.Files.{formOf}
