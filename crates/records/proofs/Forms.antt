@@ -43,7 +43,9 @@ module _ (l : List ℕ) where
   unfolding formOf
   form-short h = rw (lt-ltb (length l) 8 h) refl
 
-  pub form-long : (long count back : ℕ) (f : Form) → 8 ≤ length l → long ≡ number (take 2 (drop (length l - 8) l)) → count ≡ number (take 2 (drop (length l - 8 + 2) l)) → back ≡ number (take 4 (drop (length l - 8 + 4) l)) → f ≡ trailerForm long count back (length l) → f ≡ formOf l
+  pub form-long : (long count back : ℕ) (f : Form) → 8 ≤ length l → long ≡ number (take 2 (drop (length l - 8) l)) →
+      count ≡ number (take 2 (drop (length l - 8 + 2) l)) → back ≡ number (take 4 (drop (length l - 8 + 4) l)) →
+      f ≡ trailerForm long count back (length l) → f ≡ formOf l
   unfolding formOf
   form-long long count back f h e1 e2 e3 e =
       let at = length l - 8 in

@@ -29,7 +29,8 @@ put-none out at width rest =
     rw (k, e) refl
 
 -- the bytes from i up to the width, and one before them
-pub read-step : (l : List ℕ) (at i width n : ℕ) → 0 < i → i ≤ width → at + width ≤ length l → n ≡ number (take (width - i) (drop (at + i) l)) → 256 * n + getD l (at + (i - 1)) 0 ≡ number (take (width - (i - 1)) (drop (at + (i - 1)) l))
+pub read-step : (l : List ℕ) (at i width n : ℕ) → 0 < i → i ≤ width → at + width ≤ length l → n ≡ number (take (width - i) (drop (at + i) l)) →
+    256 * n + getD l (at + (i - 1)) 0 ≡ number (take (width - (i - 1)) (drop (at + (i - 1)) l))
 read-step l at i width n p h r e =
     let k : width - (i - 1) ≡ suc (width - i) = omega arith in
     let j : suc (at + (i - 1)) ≡ at + i = omega arith in
@@ -72,7 +73,11 @@ field-fits w at l h = number-fits w (drop at l) (bytes-drop at l (each-byte l h)
 onward : (m n k : ℕ) (l : List ℕ) {d : List ℕ} → d ≡ drop n l → n + m ≡ k → drop m d ≡ drop k l
 onward m n k l e h = ap (drop m) e ∙ drop-drop m n l ∙ ap (λ (j : ℕ). drop j l) h
 
-pub front-is : (l : List ℕ) (at u v place low high bits steps class : ℕ) (duv : ℤ) → duv ≡ asSigned duvWidth bits → u ≡ number (take 4 (drop at l)) → v ≡ number (take 4 (drop (at + 4) l)) → place ≡ number (take 2 (drop (at + 8) l)) → low ≡ number (take 2 (drop (at + 10) l)) → high ≡ number (take 2 (drop (at + 12) l)) → bits ≡ number (take 2 (drop (at + 14) l)) → steps ≡ number (take 1 (drop (at + 16) l)) → class ≡ number (take 1 (drop (at + 17) l)) → record { u = u; v = v; place = place; low = low; high = high; duv = duv; steps = steps; class = class } ≡ frontRecord duvWidth (drop at l)
+pub front-is : (l : List ℕ) (at u v place low high bits steps class : ℕ) (duv : ℤ) → duv ≡ asSigned duvWidth bits → u ≡ number (take 4 (drop at l)) →
+    v ≡ number (take 4 (drop (at + 4) l)) → place ≡ number (take 2 (drop (at + 8) l)) → low ≡ number (take 2 (drop (at + 10) l)) →
+    high ≡ number (take 2 (drop (at + 12) l)) → bits ≡ number (take 2 (drop (at + 14) l)) → steps ≡ number (take 1 (drop (at + 16) l)) →
+    class ≡ number (take 1 (drop (at + 17) l)) →
+    record { u = u; v = v; place = place; low = low; high = high; duv = duv; steps = steps; class = class } ≡ frontRecord duvWidth (drop at l)
 unfolding frontRecord
 front-is l at u v place low high bits steps class duv e e0 e1 e2 e3 e4 e5 e6 e7 =
     let d1 : drop 4 (drop at l) ≡ drop (at + 4) l = onward 4 at (at + 4) l refl (omega arith) in

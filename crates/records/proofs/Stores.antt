@@ -28,7 +28,10 @@ pub stored-over : (xs old : List ℕ) → length xs ≤ length old → sets old 
 stored-over xs old h = sets-eq xs old 0 (omega arith) ∙ (let e : 0 + length xs ≡ length xs = omega arith in ap (λ (n : ℕ). xs ++ drop n old) e)
 
 -- the numbers of a record, whose Duv is n as an unsigned number
-pub record-stored : (o : List ℕ) {o1 o2 o3 o4 o5 o6 o7 o8 : List ℕ} (r : Record) (at n : ℕ) → n ≡ asUnsigned duvWidth (r .duv) → o1 ≡ sets o at (bytesOf 4 (r .u)) → o2 ≡ sets o1 (at + 4) (bytesOf 4 (r .v)) → o3 ≡ sets o2 (at + 8) (bytesOf 2 (r .place)) → o4 ≡ sets o3 (at + 10) (bytesOf 2 (r .low)) → o5 ≡ sets o4 (at + 12) (bytesOf 2 (r .high)) → o6 ≡ sets o5 (at + 14) (bytesOf duvWidth n) → o7 ≡ sets o6 (at + 16) (bytesOf 1 (r .steps)) → o8 ≡ sets o7 (at + 17) (bytesOf 1 (r .class)) → o8 ≡ sets o at (recordBytes duvWidth r)
+pub record-stored : (o : List ℕ) {o1 o2 o3 o4 o5 o6 o7 o8 : List ℕ} (r : Record) (at n : ℕ) → n ≡ asUnsigned duvWidth (r .duv) →
+    o1 ≡ sets o at (bytesOf 4 (r .u)) → o2 ≡ sets o1 (at + 4) (bytesOf 4 (r .v)) → o3 ≡ sets o2 (at + 8) (bytesOf 2 (r .place)) →
+    o4 ≡ sets o3 (at + 10) (bytesOf 2 (r .low)) → o5 ≡ sets o4 (at + 12) (bytesOf 2 (r .high)) → o6 ≡ sets o5 (at + 14) (bytesOf duvWidth n) →
+    o7 ≡ sets o6 (at + 16) (bytesOf 1 (r .steps)) → o8 ≡ sets o7 (at + 17) (bytesOf 1 (r .class)) → o8 ≡ sets o at (recordBytes duvWidth r)
 unfolding recordBytes
 record-stored o {o5 = o5} {o6 = o6} r at n e e1 e2 e3 e4 e5 e6 e7 e8 =
     let b1 = bytesOf 4 (r .u) in

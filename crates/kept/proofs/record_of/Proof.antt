@@ -37,14 +37,21 @@ cast-t9 : tie.Need-cast-t9
 cast-t9 c = omega (arith, fits (c .before .before .before) .high)
 
 cast-t10 : tie.Need-cast-t10
-cast-t10 c = rw (back (duv-fits (c .before .before .before .before .before .before .before .before))) (narrow-duv (c .before .before .before .before .before .before .before .before .args .answer .duv) (fits (c .before .before .before .before .before) .duv))
+cast-t10 c =
+    let else2 = c .before .before .before .before .before in
+    let start = else2 .before .before .before in
+    rw (back (duv-fits start)) (narrow-duv (start .args .answer .duv) (fits else2 .duv))
 
 returns-3 : tie.Need-returns-3
 returns-3 c =
-    let a = c .before .before .before .before .before .before .before .before .args .answer in
-    let e : read w16 (read w32 (a .duv)) ≡ a .duv = ap (read w16) (back (duv-fits (c .before .before .before .before .before .before .before .before))) ∙ back (narrow-duv (a .duv) (fits (c .before .before .before .before .before) .duv)) in
-    fitting (c .before .before .before .before .before .before .before .before .args .u) (c .before .before .before .before .before .before .before .before .args .v) (c .before .before .before .before .before .before .before .before .args .answer) _ (c .before .before .before .before .before .before .before .if1 .left) (sym (c .before .before .before .before .before .before .fits-record .ensures) ∙ not-false _ (c .before .before .before .before .before .if2 .left))
-    (ap (λ (z : ℤ). record { u = c .before .before .before .before .before .before .before .before .args .u; v = c .before .before .before .before .before .before .before .before .args .v; place = a .place; low = a .low; high = a .high; duv = z; steps = a .steps; class = a .class }) e)
+    let else2 = c .before .before .before .before .before in
+    let after-fits-record = else2 .before in
+    let else1 = after-fits-record .before in
+    let start = else1 .before in
+    let a = start .args .answer in
+    let e : read w16 (read w32 (a .duv)) ≡ a .duv = ap (read w16) (back (duv-fits start)) ∙ back (narrow-duv (a .duv) (fits else2 .duv)) in
+    fitting (start .args .u) (start .args .v) (start .args .answer) _ (else1 .if1 .left) (sym (after-fits-record .fits-record .ensures) ∙ not-false _ (else2 .if2 .left))
+    (ap (λ (z : ℤ). record { u = start .args .u; v = start .args .v; place = a .place; low = a .low; high = a .high; duv = z; steps = a .steps; class = a .class }) e)
 
 pub record-of-spec : {M : Type 1} → statement M
 record-of-spec =

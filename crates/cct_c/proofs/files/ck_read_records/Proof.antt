@@ -40,9 +40,11 @@ same-length-8 c = c .before .before .before .before .before .before .before .bef
 
 returns : tie.Need-returns
 returns c =
-    let done = c .before .before .before .before .before .before .before .before .before .before .before .before .before .before .before .before .read-records .ensures in (
+    let after-read-records = c .before .before .before .before .before .before .before .before .before .before .before .before .before .before .before .before in
+    let start = after-read-records .before .before .before .before .before .before .before .before .before .before .before .before .before .before .before .before .before in
+    let done = after-read-records .read-records .ensures in (
       c .plain-outcome .ensures ∙ ap plainOutcome (done .0),
-      (done .1 .0 ∙ ap (λ (o : Outcome). readInto o (c .before .before .before .before .before .before .before .before .before .before .before .before .before .before .before .before .before .before .before .before .before .before .before .before .before .before .before .before .before .before .before .before .before .args .file .now) (columns (c .before .before .before .before .before .before .before .before .before .before .before .before .before .before .before .before .before .before .before .before .before .before .before .before .before .before .before .before .before .before .before .before .before .args .u .now) (c .before .before .before .before .before .before .before .before .before .before .before .before .before .before .before .before .before .before .before .before .before .before .before .before .before .before .before .before .before .before .before .before .before .args .v .now) (c .before .before .before .before .before .before .before .before .before .before .before .before .before .before .before .before .before .before .before .before .before .before .before .before .before .before .before .before .before .before .before .before .before .args .place .now) (c .before .before .before .before .before .before .before .before .before .before .before .before .before .before .before .before .before .before .before .before .before .before .before .before .before .before .before .before .before .before .before .before .before .args .low .now) (c .before .before .before .before .before .before .before .before .before .before .before .before .before .before .before .before .before .before .before .before .before .before .before .before .before .before .before .before .before .before .before .before .before .args .high .now) (c .before .before .before .before .before .before .before .before .before .before .before .before .before .before .before .before .before .before .before .before .before .before .before .before .before .before .before .before .before .before .before .before .before .args .duv .now) (c .before .before .before .before .before .before .before .before .before .before .before .before .before .before .before .before .before .before .before .before .before .before .before .before .before .before .before .before .before .before .before .before .before .args .steps .now) (c .before .before .before .before .before .before .before .before .before .before .before .before .before .before .before .before .before .before .before .before .before .before .before .before .before .before .before .before .before .before .before .before .before .args .class .now))) (done .0), refl),
+      (done .1 .0 ∙ ap (λ (o : Outcome). readInto o (start .args .file .now) (columns (start .args .u .now) (start .args .v .now) (start .args .place .now) (start .args .low .now) (start .args .high .now) (start .args .duv .now) (start .args .steps .now) (start .args .class .now))) (done .0), refl),
     )
 
 pub ck-read-records-spec : {M : Type 1} → statement M

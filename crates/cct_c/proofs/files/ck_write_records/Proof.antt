@@ -19,9 +19,11 @@ same-length c = c .before .before .before .write-records .kept .1 .1 .1 .1 .1 .1
 
 returns : tie.Need-returns
 returns c =
-    let done = c .before .before .before .write-records .ensures in (
+    let after-write-records = c .before .before .before in
+    let start = after-write-records .before .before .before .before .before .before .before .before .before .before in
+    let done = after-write-records .write-records .ensures in (
       c .plain-outcome .ensures ∙ ap plainOutcome (done .0),
-      (done .1 .0 ∙ ap (λ (o : Outcome). written o (listOf (columns (c .before .before .before .before .before .before .before .before .before .before .before .before .before .args .u .now) (c .before .before .before .before .before .before .before .before .before .before .before .before .before .args .v .now) (c .before .before .before .before .before .before .before .before .before .before .before .before .before .args .place .now) (c .before .before .before .before .before .before .before .before .before .before .before .before .before .args .low .now) (c .before .before .before .before .before .before .before .before .before .before .before .before .before .args .high .now) (c .before .before .before .before .before .before .before .before .before .before .before .before .before .args .duv .now) (c .before .before .before .before .before .before .before .before .before .before .before .before .before .args .steps .now) (c .before .before .before .before .before .before .before .before .before .before .before .before .before .args .class .now))) (c .before .before .before .before .before .before .before .before .before .before .before .before .before .args .file .now)) (done .0), refl),
+      (done .1 .0 ∙ ap (λ (o : Outcome). written o (listOf (columns (start .args .u .now) (start .args .v .now) (start .args .place .now) (start .args .low .now) (start .args .high .now) (start .args .duv .now) (start .args .steps .now) (start .args .class .now))) (start .args .file .now)) (done .0), refl),
     )
 
 pub ck-write-records-spec : {M : Type 1} → statement M

@@ -35,7 +35,12 @@ same-length : tie.Need-same-length
 same-length c = search needs
 
 returns : tie.Need-returns
-returns c = trailer-stored (c .before .before .before .before .before .before .before .before .before .before .before .before .before .args .out .now) (c .before .before .before .before .before .before .before .before .before .before .before .before .before .args .at) (c .before .before .before .before .before .before .before .before .before .before .before .before .before .args .n) (c .before .before .before .before .before .before .before .before .before .before .put-number .ensures) (c .before .before .before .before .before .before .put-number2 .ensures) (c .before .before .put-number3 .ensures)
+returns c =
+    let after-put-number3 = c .before .before in
+    let after-put-number2 = after-put-number3 .before .before .before .before in
+    let after-put-number = after-put-number2 .before .before .before .before in
+    let start = after-put-number .before .before .before in
+    trailer-stored (start .args .out .now) (start .args .at) (start .args .n) (after-put-number .put-number .ensures) (after-put-number2 .put-number2 .ensures) (after-put-number3 .put-number3 .ensures)
 
 pub put-trailer-spec : {M : Type 1} → statement M
 put-trailer-spec =

@@ -37,17 +37,29 @@ record-from-requires : tie.Need-record-from-requires Inv-loop μ-loop
 record-from-requires c κs = omega (arith, c .loop-test .taken, c .before .before .before .before .before .before .before .before .before .before .pre .1)
 
 store-requires : tie.Need-store-requires Inv-loop μ-loop
-store-requires c κs = level-row (held (c .before .before .before .before .before .before .before .before .before .before)) (lent (c .before .before .before .before .before .before .before .before .before .before .before .before .before .before .before .before .before .before .before)) (c .before .before .before .before .before .before .before .before .before .before .loop .i) (level (c .before .before .before .before .before .before .before .before .before .before)) (has-row (lent (c .before .before .before .before .before .before .before .before .before .before .before .before .before .before .before .before .before .before .before)) (c .before .before .before .before .before .before .before .before .before .before .loop .i) (omega (arith, c .before .before .before .before .before .before .before .before .before .loop-test .taken, c .before .before .before .before .before .before .before .before .before .before .before .before .before .before .before .before .before .before .before .pre .0)))
+store-requires c κs =
+    let in-loop = c .before .before .before .before .before .before .before .before .before in
+    let at-loop = in-loop .before in
+    let start = at-loop .before .before .before .before .before .before .before .before .before in
+    level-row (held at-loop) (lent start) (at-loop .loop .i) (level at-loop) (has-row (lent start) (at-loop .loop .i) (omega (arith, in-loop .loop-test .taken, start .pre .0)))
 
 add-i : tie.Need-add-i Inv-loop μ-loop
-add-i c = omega (arith, c .before .before .before .before .before .before .before .before .before .before .before .before .before .before .before .before .before .before .before .before .before .before .before .before .before .loop-test .taken, c .before .before .before .before .before .before .before .before .before .before .before .before .before .before .before .before .before .before .before .before .before .before .before .before .before .before .before .before .before .before .before .before .before .before .before .fits .n)
+add-i c =
+    let in-loop = c .before .before .before .before .before .before .before .before .before .before .before .before .before .before .before .before .before .before .before .before .before .before .before .before .before in
+    let start = in-loop .before .before .before .before .before .before .before .before .before .before in
+    omega (arith, in-loop .loop-test .taken, start .fits .n)
 
 loop-less : tie.Need-loop-less Inv-loop μ-loop
 loop-less c = omega (arith, c .before .before .before .before .before .before .before .before .before .before .before .before .before .before .before .before .before .before .before .before .before .before .before .before .before .loop-test .taken)
 
 loop-again : tie.Need-loop-again Inv-loop μ-loop
 loop-again c =
-    (omega (arith, c .before .before .before .before .before .before .before .before .before .before .before .before .before .before .before .before .before .before .before .before .before .before .before .before .before .loop-test .taken), next-read (c .before .before .before .before .before .before .before .before .before .before .before .before .before .before .before .before .before .before .before .before .before .before .before .before .before .before .before .before .before .before .before .before .before .before .before .args .file .now) (lent (c .before .before .before .before .before .before .before .before .before .before .before .before .before .before .before .before .before .before .before .before .before .before .before .before .before .before .before .before .before .before .before .before .before .before .before)) (c .before .before .before .before .before .before .before .before .before .before .before .before .before .before .before .before .before .before .before .before .before .before .before .before .before .before .loop .i) (held (c .before .before .before .before .before .before .before .before .before .before .before .before .before .before .before .before .before .before .before .before .before .before .before .before .before .before)) _ (c .before .before .before .before .before .before .before .before .before .before .before .before .before .before .before .before .before .before .before .before .before .before .before .before .record-from .result) (omega (arith, c .before .before .before .before .before .before .before .before .before .before .before .before .before .before .before .before .before .before .before .before .before .before .before .before .before .loop-test .taken, c .before .before .before .before .before .before .before .before .before .before .before .before .before .before .before .before .before .before .before .before .before .before .before .before .before .before .before .before .before .before .before .before .before .before .before .pre .0)) (c .before .before .before .before .before .before .before .before .before .before .before .before .before .before .before .before .before .before .before .before .before .before .before .before .before .before .loop .inv .1) (c .before .before .before .before .before .before .before .before .before .before .before .before .before .before .before .before .before .before .before .before .before .before .before .before .record-from .ensures) (c .before .before .before .before .before .before .before .before .before .before .before .before .before .before .before .store .ensures))
+    let after-store = c .before .before .before .before .before .before .before .before .before .before .before .before .before .before .before in
+    let after-record-from = after-store .before .before .before .before .before .before .before .before .before in
+    let in-loop = after-record-from .before in
+    let at-loop = in-loop .before in
+    let start = at-loop .before .before .before .before .before .before .before .before .before in
+    (omega (arith, in-loop .loop-test .taken), next-read (start .args .file .now) (lent start) (at-loop .loop .i) (held at-loop) _ (after-record-from .record-from .result) (omega (arith, in-loop .loop-test .taken, start .pre .0)) (at-loop .loop .inv .1) (after-record-from .record-from .ensures) (after-store .store .ensures))
 
 same-length : tie.Need-same-length Inv-loop μ-loop
 same-length c = level (c .before) .u
@@ -75,8 +87,10 @@ same-length-8 c = level (c .before) .class
 
 returns : tie.Need-returns Inv-loop μ-loop
 returns c =
-    let e : c .before .loop .i ≡ c .before .before .before .before .before .before .before .before .before .before .args .n = omega (arith, c .before .loop .inv .0, c .loop-test .left) in
-    c .before .loop .inv .1 ∙ ap (λ (k : ℕ). filled (recordsIn duvWidth k (c .before .before .before .before .before .before .before .before .before .before .args .file .now)) (lent (c .before .before .before .before .before .before .before .before .before .before))) e
+    let at-loop = c .before in
+    let start = at-loop .before .before .before .before .before .before .before .before .before in
+    let e : at-loop .loop .i ≡ start .args .n = omega (arith, at-loop .loop .inv .0, c .loop-test .left) in
+    at-loop .loop .inv .1 ∙ ap (λ (k : ℕ). filled (recordsIn duvWidth k (start .args .file .now)) (lent start)) e
 
 pub fill-rows-spec : {M : Type 1} → statement M
 fill-rows-spec =

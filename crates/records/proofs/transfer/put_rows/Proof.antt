@@ -28,10 +28,16 @@ loop-holds : tie.Need-loop-holds Inv-loop μ-loop
 loop-holds c = (omega arith, refl, refl, empty)
 
 row-requires : tie.Need-row-requires Inv-loop μ-loop
-row-requires c κs = has-row (lent (c .before .before .before .before .before .before .before .before .before .before)) (c .before .loop .i) (omega (arith, c .loop-test .taken, c .before .before .before .before .before .before .before .before .before .before .pre .0))
+row-requires c κs =
+    let at-loop = c .before in
+    let start = at-loop .before .before .before .before .before .before .before .before .before in
+    has-row (lent start) (at-loop .loop .i) (omega (arith, c .loop-test .taken, start .pre .0))
 
 mul-put-record : tie.Need-mul-put-record Inv-loop μ-loop
-mul-put-record c = omega (arith, c .before .before .loop-test .taken, c .before .before .before .before .before .before .before .before .before .before .before .before .pre .1, c .before .before .before .before .before .before .before .before .before .before .before .before .good)
+mul-put-record c =
+    let in-loop = c .before .before in
+    let start = in-loop .before .before .before .before .before .before .before .before .before .before in
+    omega (arith, in-loop .loop-test .taken, start .pre .1, start .good)
 
 put-record-requires : tie.Need-put-record-requires Inv-loop μ-loop
 put-record-requires c κs = omega (arith, c .before .before .loop-test .taken, c .before .before .before .before .before .before .before .before .before .before .before .before .pre .1, c .before .before .before .loop .inv .1)
@@ -44,20 +50,27 @@ loop-less c = omega (arith, c .before .before .before .before .before .loop-test
 
 loop-again : tie.Need-loop-again Inv-loop μ-loop
 loop-again c =
-    let l = c .before .before .before .before .before .before .loop in
-    let r = c .before .before .before .before .row .result in
-    let e = c .before .before .before .before .row .ensures in
-    let stored = c .before .before .put-record in
-    (omega (arith, c .before .before .before .before .before .loop-test .taken), stored .kept .1 .0 ∙ l .inv .1, row-stored (lent (c .before .before .before .before .before .before .before .before .before .before .before .before .before .before .before)) (l .i) r e (c .before .before .before .before .before .before .before .before .before .before .before .before .before .before .before .args .out .now) (l .inv .2) (stored .ensures .0), row-narrow (lent (c .before .before .before .before .before .before .before .before .before .before .before .before .before .before .before)) (l .i) r e (l .inv .3) (stored .ensures .1))
+    let after-put-record = c .before .before in
+    let after-row = after-put-record .before .before in
+    let in-loop = after-row .before in
+    let at-loop = in-loop .before in
+    let start = at-loop .before .before .before .before .before .before .before .before .before in
+    let l = at-loop .loop in
+    let r = after-row .row .result in
+    let e = after-row .row .ensures in
+    let stored = after-put-record .put-record in
+    (omega (arith, in-loop .loop-test .taken), stored .kept .1 .0 ∙ l .inv .1, row-stored (lent start) (l .i) r e (start .args .out .now) (l .inv .2) (stored .ensures .0), row-narrow (lent start) (l .i) r e (l .inv .3) (stored .ensures .1))
 
 same-length : tie.Need-same-length Inv-loop μ-loop
 same-length c = c .before .loop .inv .1
 
 returns : tie.Need-returns Inv-loop μ-loop
 returns c =
-    let l = c .before .loop in
-    let e : l .i ≡ c .before .before .before .before .before .before .before .before .before .before .args .n = omega (arith, l .inv .0, c .loop-test .left) in
-    (l .inv .2 ∙ ap (λ (k : ℕ). sets (c .before .before .before .before .before .before .before .before .before .before .args .out .now) 0 (recordsBytes duvWidth (rows (lent (c .before .before .before .before .before .before .before .before .before .before)) k))) e, subst (λ (k : ℕ). AllNarrow duvWidth (rows (lent (c .before .before .before .before .before .before .before .before .before .before)) k)) e (l .inv .3))
+    let at-loop = c .before in
+    let start = at-loop .before .before .before .before .before .before .before .before .before in
+    let l = at-loop .loop in
+    let e : l .i ≡ start .args .n = omega (arith, l .inv .0, c .loop-test .left) in
+    (l .inv .2 ∙ ap (λ (k : ℕ). sets (start .args .out .now) 0 (recordsBytes duvWidth (rows (lent start) k))) e, subst (λ (k : ℕ). AllNarrow duvWidth (rows (lent start) k)) e (l .inv .3))
 
 pub put-rows-spec : {M : Type 1} → statement M
 put-rows-spec =

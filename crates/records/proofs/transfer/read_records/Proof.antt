@@ -33,13 +33,26 @@ shortest-requires : tie.Need-shortest-requires
 shortest-requires c κs = search needs
 
 returns : tie.Need-returns
-returns c = (short-read (c .before .before .before .before .before .before .before .before .before .before .before .before .before .before .args .file .now) (c .before .before .before .n .given .0 .0) (sizeOf (lent (c .before .before .before .before .before .before .before .before .before .before .before .before .before .before))) (form-is (c .before .before .before)) (omega (arith, size (c .before), c .if1 .taken)), (refl, (refl, tt)))
+returns c =
+    let after-shortest = c .before in
+    let after-n = after-shortest .before .before in
+    let start = after-n .before .before .before .before .before .before .before .before .before .before .before in
+    (short-read (start .args .file .now) (after-n .n .given .0 .0) (sizeOf (lent start)) (form-is after-n) (omega (arith, size after-shortest, c .if1 .taken)), (refl, (refl, tt)))
 
 fill-rows-requires : tie.Need-fill-rows-requires
-fill-rows-requires c κs = (omega (arith, size (c .before .before .before .before .before .before .before .before .before), c .before .before .before .before .before .before .before .before .if1 .left), file-holds (c .before .before .before .before .before .before .before .before .before .before .before .before .before .before .before .before .before .before .before .before .before .before .args .file .now) (c .before .before .before .before .before .before .before .before .before .before .before .n .given .0 .0) (sizeOf (lent (c .before .before .before .before .before .before .before .before .before .before .before .before .before .before .before .before .before .before .before .before .before .before))) (form-is (c .before .before .before .before .before .before .before .before .before .before .before)))
+fill-rows-requires c κs =
+    let else1 = c .before .before .before .before .before .before .before .before in
+    let after-shortest = else1 .before in
+    let after-n = after-shortest .before .before in
+    let start = after-n .before .before .before .before .before .before .before .before .before .before .before in
+    (omega (arith, size after-shortest, else1 .if1 .left), file-holds (start .args .file .now) (after-n .n .given .0 .0) (sizeOf (lent start)) (form-is after-n))
 
 returns-2 : tie.Need-returns-2
-returns-2 c = (bad-read (c .before .before .before .before .before .before .before .before .before .before .before .before .args .file .now) (sizeOf (lent (c .before .before .before .before .before .before .before .before .before .before .before .before))) (c .before .refusal .given .0 .0) (sym (c .before .before .before .check-form .ensures .0) ∙ c .before .refusal .given .1), (refl, (refl, tt)))
+returns-2 c =
+    let after-refusal = c .before in
+    let after-check-form = after-refusal .before .before in
+    let start = after-check-form .before .before .before .before .before .before .before .before .before in
+    (bad-read (start .args .file .now) (sizeOf (lent start)) (after-refusal .refusal .given .0 .0) (sym (after-check-form .check-form .ensures .0) ∙ after-refusal .refusal .given .1), (refl, (refl, tt)))
 
 same-length : tie.Need-same-length
 same-length c = c .before .before .before .before .before .before .before .before .before .before .before .before .before .before .before .fill-rows .kept .1 .1 .0
@@ -67,11 +80,17 @@ same-length-8 c = c .before .before .before .before .before .before .before .bef
 
 returns-3 : tie.Need-returns-3
 returns-3 c =
-    let room = sizeOf (lent (c .before .before .before .before .before .before .before .before .before .before .before .before .before .before .before .before .before .before .before .before .before .before .before .before .before .before .before .before .before .before .before .before .before .before .before .before .before .before)) in (
-      done-read (c .before .before .before .before .before .before .before .before .before .before .before .before .before .before .before .before .before .before .before .before .before .before .before .before .before .before .before .before .before .before .before .before .before .before .before .before .before .before .args .file .now) (c .before .before .before .before .before .before .before .before .before .before .before .before .before .before .before .before .before .before .before .before .before .before .before .before .before .before .before .n .given .0 .0) room (form-is (c .before .before .before .before .before .before .before .before .before .before .before .before .before .before .before .before .before .before .before .before .before .before .before .before .before .before .before)) (omega (arith, size (c .before .before .before .before .before .before .before .before .before .before .before .before .before .before .before .before .before .before .before .before .before .before .before .before .before), c .before .before .before .before .before .before .before .before .before .before .before .before .before .before .before .before .before .before .before .before .before .before .before .before .if1 .left)),
+    let after-fill-rows = c .before .before .before .before .before .before .before .before .before .before .before .before .before .before .before in
+    let else1 = after-fill-rows .before .before .before .before .before .before .before .before .before in
+    let after-shortest = else1 .before in
+    let after-n = after-shortest .before .before in
+    let after-shared-slice-known = after-n .before .before .before .before .before .before .before .before .before .before in
+    let start = after-shared-slice-known .before in
+    let room = sizeOf (lent start) in (
+      done-read (start .args .file .now) (after-n .n .given .0 .0) room (form-is after-n) (omega (arith, size after-shortest, else1 .if1 .left)),
       (
-        c .before .before .before .before .before .before .before .before .before .before .before .before .before .before .before .fill-rows .ensures,
-        (refl, again-read (c .before .before .before .before .before .before .before .before .before .before .before .before .before .before .before .before .before .before .before .before .before .before .before .before .before .before .before .before .before .before .before .before .before .before .before .before .before .before .args .file .now) (c .before .before .before .before .before .before .before .before .before .before .before .before .before .before .before .before .before .before .before .before .before .before .before .before .before .before .before .n .given .0 .0) room (form-is (c .before .before .before .before .before .before .before .before .before .before .before .before .before .before .before .before .before .before .before .before .before .before .before .before .before .before .before)) (each-byte (c .before .before .before .before .before .before .before .before .before .before .before .before .before .before .before .before .before .before .before .before .before .before .before .before .before .before .before .before .before .before .before .before .before .before .before .before .before .before .args .file .now) (c .before .before .before .before .before .before .before .before .before .before .before .before .before .before .before .before .before .before .before .before .before .before .before .before .before .before .before .before .before .before .before .before .before .before .before .before .before .shared-slice-known .given))),
+        after-fill-rows .fill-rows .ensures,
+        (refl, again-read (start .args .file .now) (after-n .n .given .0 .0) room (form-is after-n) (each-byte (start .args .file .now) (after-shared-slice-known .shared-slice-known .given))),
       ),
     )
 

@@ -18,7 +18,10 @@ shortest-requires : tie.Need-shortest-requires
 shortest-requires c κs = search needs
 
 returns : tie.Need-returns
-returns c = (many-written (lent (c .before .before .before .before .before .before .before .before .before .before)) (c .before .shortest .result) (size (c .before)) (c .before .before .before .before .before .before .before .before .before .before .args .file .now) (c .if1 .taken), (refl, (refl, tt)))
+returns c =
+    let after-shortest = c .before in
+    let start = after-shortest .before .before .before .before .before .before .before .before .before in
+    (many-written (lent start) (after-shortest .shortest .result) (size after-shortest) (start .args .file .now) (c .if1 .taken), (refl, (refl, tt)))
 
 mul-records-end : tie.Need-mul-records-end
 mul-records-end c = search needs
@@ -27,7 +30,11 @@ add-end : tie.Need-add-end
 add-end c = search needs
 
 returns-2 : tie.Need-returns-2
-returns-2 c = (short-written (lent (c .before .before .before .before .before .before .before .before .before .before .before)) (c .before .before .shortest .result) (size (c .before .before)) (c .before .before .before .before .before .before .before .before .before .before .before .args .file .now) (c .before .if1 .left) (c .if2 .taken), (refl, (refl, tt)))
+returns-2 c =
+    let else1 = c .before in
+    let after-shortest = else1 .before in
+    let start = after-shortest .before .before .before .before .before .before .before .before .before in
+    (short-written (lent start) (after-shortest .shortest .result) (size after-shortest) (start .args .file .now) (else1 .if1 .left) (c .if2 .taken), (refl, (refl, tt)))
 
 put-rows-requires : tie.Need-put-rows-requires
 put-rows-requires c κs = (omega (arith, size (c .before .before .before)), omega (arith, c .before .if2 .left))
@@ -40,13 +47,19 @@ same-length c = search needs
 
 returns-3 : tie.Need-returns-3
 returns-3 c =
-    let rows-put = c .before .before .before .before .before .before .put-rows .ensures in (
-      done-written (lent (c .before .before .before .before .before .before .before .before .before .before .before .before .before .before .before .before .before .before .before)) (c .before .before .before .before .before .before .before .before .before .before .shortest .result) (size (c .before .before .before .before .before .before .before .before .before .before)) (c .before .before .before .before .before .before .before .before .before .before .before .before .before .before .before .before .before .before .before .args .file .now) (c .before .before .before .before .before .before .before .before .before .if1 .left) (c .before .before .before .before .before .before .before .before .if2 .left),
+    let after-put-trailer = c .before .before in
+    let after-put-rows = after-put-trailer .before .before .before .before in
+    let else2 = after-put-rows .before .before in
+    let else1 = else2 .before in
+    let after-shortest = else1 .before in
+    let start = after-shortest .before .before .before .before .before .before .before .before .before in
+    let rows-put = after-put-rows .put-rows .ensures in (
+      done-written (lent start) (after-shortest .shortest .result) (size after-shortest) (start .args .file .now) (else1 .if1 .left) (else2 .if2 .left),
       (
-        target-written (lent (c .before .before .before .before .before .before .before .before .before .before .before .before .before .before .before .before .before .before .before)) (c .before .before .before .before .before .before .before .before .before .before .shortest .result) (size (c .before .before .before .before .before .before .before .before .before .before)) (c .before .before .before .before .before .before .before .before .before .before .before .before .before .before .before .before .before .before .before .args .file .now) (c .before .before .before .before .before .before .before .before .if2 .left) (rows-put .0) (c .before .before .put-trailer .ensures),
+        target-written (lent start) (after-shortest .shortest .result) (size after-shortest) (start .args .file .now) (else2 .if2 .left) (rows-put .0) (after-put-trailer .put-trailer .ensures),
         (
           refl,
-          back-written (lent (c .before .before .before .before .before .before .before .before .before .before .before .before .before .before .before .before .before .before .before)) (c .before .before .before .before .before .before .before .before .before .before .shortest .result) (size (c .before .before .before .before .before .before .before .before .before .before)) (c .before .before .before .before .before .before .before .before .before .before .before .before .before .before .before .before .before .before .before .args .file .now) (c .before .before .before .before .before .before .before .before .before .if1 .left) (rows-put .1),
+          back-written (lent start) (after-shortest .shortest .result) (size after-shortest) (start .args .file .now) (else1 .if1 .left) (rows-put .1),
         ),
       ),
     )
