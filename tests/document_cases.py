@@ -1,9 +1,10 @@
 """Document 01's own cases, typed in from the document and never from our program's output: the listing, the (P) cases and the
-"Also run" list; and cases of document 02's No. 1 to 3, worked out apart from the reference. `check()` holds it to them all."""
+"Also run" list; and cases of document 02's No. 1 to 4, worked out apart from the reference. `check()` holds it to them all."""
 
 from fractions import Fraction
 from itertools import product
 
+import record_files
 import reference as ref
 from floats import NEGATIVE_INFINITY, QUIET_NAN, nearest_f32
 
@@ -86,6 +87,35 @@ SPECTRA = (
     (((1,), (1,), (1,), (4_000_001,)), 10),
 )
 
+# Lists of records, and their files byte by byte: a record of bytes that all differ, and the answers to lines 1 and 2 of the
+# listing.
+EMPTY_FILE = "12 00 00 00 00 00 00 00"
+RECORD_FILES = (
+    ((), EMPTY_FILE),
+    (((0x01020304, 0x05060708, 0x090A, 0x0B0C, 0x0D0F, -2, 14, 255),),
+     "04 03 02 01 08 07 06 05 0a 09 0c 0b 0f 0d fe ff 0e ff 12 00 01 00 12 00 00 00"),
+    (((255910, 349510, 36176, 33592, 38760, 0, 0, 1), (219300, 327100, 23256, 20672, 25840, -2347, 0, 255)),
+     "a6 e7 03 00 46 55 05 00 50 8d 38 83 68 97 00 00 00 01 a4 58 03 00 bc fd 04 00 d8 5a c0 50 f0 64 d5 f6 00 ff "
+     "12 00 02 00 24 00 00 00"),
+)
+
+# A file, the room for records, and the refusal's number, 0 where it is read; most of those that are refused break a later rule too.
+UNREADABLE_FILES = (
+    (EMPTY_FILE, 0, 0),
+    ("00 00 00 00 00 00 00", 0, 13),
+    ("14 00 11 0e 00 00 00 00", 0, 14),  # 20 for 18, and 3,601 records
+    ("12 00 11 0e 00 00 00 00", 0, 15),  # the distance is 0
+    ("12 00 11 0e 32 fd 00 00", 0, 15),  # the distance, 64,818, is that of 3,601 records, and there are none
+    ("00 " * 18 + "12 00 00 00 00 00 00 00", 1, 15),  # the trailer has no records, and the file has one
+    ("00 " * 18 + "12 00 01 00 1a 00 00 00", 1, 15),  # the distance to the end of the file
+    ("00 " * 64_818 + "12 00 11 0e 32 fd 00 00", 0, 11),
+    ("00 " * 64_800 + "12 00 10 0e 20 fd 00 00", 3600, 0),
+    ("00 " * 64_800 + "12 00 10 0e 20 fd 00 00", 3599, 12),
+)
+
+# How many records, the target's room in bytes, and the refusal's number, 0 where they are written.
+UNWRITTEN_FILES = ((0, 8, 0), (0, 7, 12), (3600, 64_808, 0), (3600, 64_807, 12), (3601, 64_826, 11), (3601, 0, 11), (65_536, 8, 11))
+
 
 def bits(text):
     """The f32 bits of a fraction written as text, of a NaN or of minus infinity."""
@@ -158,6 +188,30 @@ def check_cubics():
         assert sum(weight * value for weight, value in zip((1, -4, 6, -4, 1), spaced)) == 0, piece
 
 
+def check_record_files():
+    assert (record_files.RECORD.size, record_files.TRAILER.size) == (18, 8)
+    for records, text in RECORD_FILES:
+        file = bytes.fromhex(text)
+        assert record_files.write(list(records), len(file)) == (0, file), (records, text)
+        assert record_files.read(file, len(records)) == (0, list(records)), (records, text)
+    for text, room, expected in UNREADABLE_FILES:
+        found, _ = record_files.read(bytes.fromhex(text), room)
+        assert found == expected, (text[-23:], room, expected, found)
+    for count, room, expected in UNWRITTEN_FILES:
+        found, _ = record_files.write([(0,) * 8] * count, room)
+        assert found == expected, (count, room, expected, found)
+
+
+def check_targets():
+    """Beyond what is written or read a target keeps what it held, and after a refusal all of it."""
+    records, text = RECORD_FILES[1]
+    file, columns = bytes.fromhex(text), list(zip(*records))
+    assert record_files.write_into(b"." * 28, columns) == (0, 26, file + b"..")
+    assert record_files.write_into(b"." * 25, columns) == (12, 0, b"." * 25)
+    assert record_files.read_into([(7, 8)] * 8, file) == (0, 1, [(number, 8) for number in records[0]])
+    assert record_files.read_into([(7, 8)] * 7 + [()], file) == (12, 0, [(7, 8)] * 7 + [()])
+
+
 def check():
     check_conversions()
     check_listing()
@@ -168,3 +222,5 @@ def check():
     check_stored_locus()
     check_curve()
     check_cubics()
+    check_record_files()
+    check_targets()
