@@ -25,9 +25,13 @@ def run_text(number, count):
     return "%dx%d" % (number, count) if count > 2 else " ".join([str(number)] * count)
 
 
+def run_texts(numbers):
+    """The fields of a list: one for each of its runs."""
+    return [run_text(number, len(list(equal))) for number, equal in groupby(numbers)]
+
+
 def list_line(letter, numbers):
-    runs = ((number, len(list(equal))) for number, equal in groupby(numbers))
-    return " ".join(["list", letter, *(run_text(*run) for run in runs)])
+    return " ".join(["list", letter, *run_texts(numbers)])
 
 
 def changes(held, wanted):
@@ -40,12 +44,17 @@ def run_of(field):
     return repeat(int(number), int(count or 1))
 
 
+def numbers_of(fields):
+    """The numbers that the fields of a list write."""
+    return tuple(chain.from_iterable(map(run_of, fields)))
+
+
 def held_after(line, held):
     """The lists held after a line: only `list LETTER NUMBERS..` replaces one."""
     if not line.startswith("list "):
         return held
     _, letter, *fields = line.split()
-    return held._replace(**{letter: tuple(chain.from_iterable(map(run_of, fields)))})
+    return held._replace(**{letter: numbers_of(fields)})
 
 
 # --- To given sums ----------------------------------------------------------------------------------------------------

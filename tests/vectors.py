@@ -4,10 +4,12 @@ import answer_cases
 import below_zero_cases
 import convert_cases
 import core_cases
+import record_cases
+import record_lines
 import sample_cases
-from sample_lists import Lists, held_after
+import sample_lists
 
-SECTIONS = (convert_cases, core_cases, answer_cases, sample_cases, below_zero_cases)
+SECTIONS = (convert_cases, core_cases, answer_cases, sample_cases, below_zero_cases, record_cases)
 CORE_KINDS = ("point", "points", "entry", "search", "class", "edges")
 
 
@@ -22,15 +24,22 @@ def lines():
 
 
 def with_held(lines):
-    """Each line with the four lists of samples and tables that are held when it is answered."""
-    held = Lists()
+    """Each line with what is held when it is answered: for record files the columns and the file, for any other line the four
+    lists of samples and tables."""
+    lists, files = sample_lists.Lists(), record_lines.Held()
     for line in lines:
-        held = held_after(line, held)
-        yield line, held
+        if kind_of(line) in record_cases.KINDS:
+            files = record_lines.held_after(line, files)
+            yield line, files
+        else:
+            lists = sample_lists.held_after(line, lists)
+            yield line, lists
 
 
 def expected(line, held):
     kind = kind_of(line)
+    if kind in record_cases.KINDS:
+        return record_lines.expected(line, held)
     if kind in sample_cases.KINDS:
         return sample_cases.expected(line, held)
     if kind in CORE_KINDS:
