@@ -4,9 +4,9 @@
 
 The first six are the mistakes that document 01 warns of; the others are near misses that its rules, and those of document 02,
 leave room for. Those of spectral samples are tried on the vectors of samples, those of the locus on the vectors of places and of
-the search, those of the text program on the first lines of its committed input, then on more, and at last on all of it, and the
-others on the vectors of neither samples nor places. A wrong rule with which the reference cannot go on shows nothing, and ends
-the check."""
+the search, those of record files on the vectors of record files, those of the text program on the first lines of its committed
+input, then on more, and at last on all of it, and the others on the vectors of neither samples nor places nor record files. A
+wrong rule with which the reference cannot go on shows nothing, and ends the check."""
 
 import re
 import sys
@@ -20,14 +20,18 @@ from pathlib import Path
 sys.dont_write_bytecode = True
 sys.path.insert(0, str(Path(__file__).resolve().parent))
 
+import record_cases
+import record_files
+import record_lines
 import reference as ref
 import sample_cases
+import sample_lists
 import vectors
 from floats import exact_value, is_finite
 from hard_floats import single_precision_product
-from sample_lists import Lists, changes
 from wrong_below_zero_rules import WRONG_BELOW_ZERO_RULES
 from wrong_locus_rules import WRONG_LOCUS_RULES, halves_down
+from wrong_record_rules import WRONG_RECORD_RULES
 from wrong_sample_rules import WRONG_SAMPLE_RULES
 
 CRATES = Path(__file__).resolve().parent.parent / "crates"
@@ -206,29 +210,29 @@ def forget():
 
 
 @contextmanager
-def put_in(name, wrong):
-    """The reference with one wrong rule."""
-    right = getattr(ref, name)
-    setattr(ref, name, wrong)
+def put_in(part, name, wrong):
+    """The reference, or its part for record files, with one wrong rule."""
+    right = getattr(part, name)
+    setattr(part, name, wrong)
     forget()
     try:
         yield
     finally:
-        setattr(ref, name, right)
+        setattr(part, name, right)
         forget()
 
 
 PLACE_KINDS = ("point", "points")
 
 
-def is_of_samples(line):
-    return vectors.kind_of(line) in sample_cases.KINDS
-
-
 def shown(line, held):
-    """A vector's line; for spectral samples the lists that it is about too."""
-    about = changes(Lists(), held) if is_of_samples(line) else []
-    return ", ".join([line, *(text.removeprefix("list ") for text in about)])
+    """A vector's line; for spectral samples the lists that it is about too, and for record files the columns and the file."""
+    kind, about = vectors.kind_of(line), []
+    if kind in sample_cases.KINDS:
+        about = [text.removeprefix("list ") for text in sample_lists.changes(sample_lists.Lists(), held)]
+    if kind in record_cases.KINDS:
+        about = [text.removeprefix("column ") for text in record_lines.changes(record_lines.Held(), held)]
+    return ", ".join([line, *about])
 
 
 def first_caught(committed):
@@ -262,7 +266,7 @@ def committed_texts():
 
 
 def committed_vectors():
-    """(line, the lists held, answer) of each committed vector, the kinds in turn, so that every kind is met early."""
+    """(line, what is held, answer) of each committed vector, the kinds in turn, so that every kind is met early."""
     lines, answers = ((CRATES / "vectors" / name).read_text().splitlines() for name in ("stdin", "stdout"))
     count = Counter()
     turns = []
@@ -273,11 +277,11 @@ def committed_vectors():
     return [vector for _, vector in sorted(turns, key=lambda ranked: ranked[0])]
 
 
-def missed_of(rules, shown_by):
+def missed_of(rules, shown_by, part=ref):
     """The titles of the rules that nothing shows; what shows each other is printed."""
     missed = []
     for name, wrong, *words in rules:
-        with put_in(name, wrong):
+        with put_in(part, name, wrong):
             caught = shown_by()
         (title,) = words or [wrong.__name__.replace("_", " ") if callable(wrong) else "%s = %s" % (name, wrong)]
         print("%-44s %s" % (title, "caught by: " + caught[:70] if caught else "NOT CAUGHT"))
@@ -289,16 +293,18 @@ def main():
     committed, texts = committed_vectors(), committed_texts()
     of_samples = of_kinds(committed, lambda kind: kind in sample_cases.KINDS)
     of_locus = of_kinds(committed, lambda kind: kind in (*PLACE_KINDS, "search"))
-    others = of_kinds(committed, lambda kind: kind not in (*PLACE_KINDS, *sample_cases.KINDS))
+    of_files = of_kinds(committed, lambda kind: kind in record_cases.KINDS)
+    others = of_kinds(committed, lambda kind: kind not in (*PLACE_KINDS, *sample_cases.KINDS, *record_cases.KINDS))
     assert first_caught_text(texts) is None, "the right rules give another output"
-    assert first_caught(of_samples + of_locus) is None, "the right rules give another answer"
+    assert first_caught(of_samples + of_locus + of_files) is None, "the right rules give another answer"
     missed = missed_of(WRONG_RULES + WRONG_BELOW_ZERO_RULES, lambda: first_caught(others))
     missed += missed_of(WRONG_LOCUS_RULES, lambda: first_caught(of_locus))
     missed += missed_of(WRONG_SAMPLE_RULES, lambda: first_caught(of_samples))
+    missed += missed_of(WRONG_RECORD_RULES, lambda: first_caught(of_files), record_files)
     missed += missed_of(WRONG_TEXT_RULES, lambda: first_caught_text(texts))
     if missed:
         sys.exit("check_wrong_rules: not caught: " + ", ".join(missed))
-    count = len(WRONG_RULES + WRONG_BELOW_ZERO_RULES + WRONG_LOCUS_RULES + WRONG_SAMPLE_RULES + WRONG_TEXT_RULES)
+    count = len(WRONG_RULES + WRONG_BELOW_ZERO_RULES + WRONG_LOCUS_RULES + WRONG_SAMPLE_RULES + WRONG_RECORD_RULES + WRONG_TEXT_RULES)
     print("check_wrong_rules: all %d wrong rules are caught" % count)
 
 

@@ -8,8 +8,8 @@ from itertools import product
 import document_cases
 import record_files
 from dice import Dice
-from record_lines import (BITS, FORM_LINE, LETTERS, LONGEST_LINE, MOST_READ, MOST_WRITTEN, SIGNED, Held, as_signed, changes, held_after,
-                          read_line, record_line, write_line)
+from record_lines import (BITS, FORM_LINE, LETTERS, LONGEST_LINE, MOST_READ, MOST_WRITTEN, SIGNED, Held, as_signed, changes,
+                          held_after, read_line, record_line, write_line)
 
 KINDS = ("column", "file", "write", "form", "record", "read")
 LENGTH, TRAILER, MOST = 18, 8, 3600
@@ -56,7 +56,8 @@ def of_file(file, *rooms):
 def random_number(letter, dice):
     """Any number that fits a column: in one case of three the least or the largest, or one of their neighbours."""
     bits = BITS[letter]
-    number = dice.getrandbits(bits) if dice.below(3) else dice.pick((0, 1, 2 ** (bits - 1) - 1, 2 ** (bits - 1), 2**bits - 2, 2**bits - 1))
+    half = 2 ** (bits - 1)
+    number = dice.getrandbits(bits) if dice.below(3) else dice.pick((0, 1, half - 1, half, 2 * half - 2, 2 * half - 1))
     return as_signed(number, bits) if letter in SIGNED else number
 
 
@@ -100,8 +101,8 @@ EXTREMES = {
     16: (0, 1, 127, 128, 255, 256, 0x1314, 5168, 32_767, 32_768, 64_600, 65_280, 65_534, 65_535),
     32: (0, 1, 255, 256, 65_535, 65_536, 4_000_000, 4_000_001, 0x13141516, 2**31 - 1, 2**31, 2**32 - 2, 2**32 - 1),
 }
-DUVS = (-32_768, -32_767, -30_001, -30_000, -2347, -257, -256, -255, -129, -128, -2, -1, 0, 1, 2, 127, 128, 255, 256, 0x1314, 30_000, 30_001,
-        32_766, 32_767)
+DUVS = (-32_768, -32_767, -30_001, -30_000, -2347, -257, -256, -255, -129, -128, -2, -1, 0, 1, 2, 127, 128, 255, 256, 0x1314,
+        30_000, 30_001, 32_766, 32_767)
 
 
 def with_field(record, at, number):
@@ -279,11 +280,10 @@ def broken_file(length, count, distance, size):
 
 
 def order_cases(dice):
-    """Each choice of rules that a file of 2 or 3,601 records breaks: its length, distance, size, count and room, all together too."""
-    for bad_length, bad_distance, bad_size, many in product((False, True), repeat=4):
-        count = MOST + 1 if many else 2
-        for length, distance, size in product((17, 20) if bad_length else (LENGTH,), (-1, 1, 8) if bad_distance else (0,), (-1, 1) if bad_size else (0,)):
-            yield of_file(broken_file(length, count, count * LENGTH + distance, count * LENGTH + size), 0, count - 1, count, count + 1)
+    """Files of 2 and of 3,601 records with every choice of a wrong length, distance and size, into rooms that do and do not suffice."""
+    for count, length, off, more in product((2, MOST + 1), (LENGTH, 17, 20), (0, -1, 1, 8), (0, -1, 1)):
+        file = broken_file(length, count, count * LENGTH + off, count * LENGTH + more)
+        yield of_file(file, 0, count - 1, count, count + 1)
 
 
 def small_order_cases(dice):
@@ -294,8 +294,9 @@ def small_order_cases(dice):
 
 # --- The record at an index -------------------------------------------------------------------------------------------
 
-# Their products with 18 pass 2^64 or 2^32: by 2, 20, 14 and 32, or just not.
-WRAPPING_INDEXES = (1_024_819_115_206_086_201, 1_024_819_115_206_086_202, 1_024_819_115_206_086_200, 238_609_295, 238_609_296, 238_609_294)
+# Their products with 18 pass 2^64 by 2 and 20, or just not; the last three the same for 2^32, by 14 and 32.
+WRAPPING_INDEXES = (1_024_819_115_206_086_201, 1_024_819_115_206_086_202, 1_024_819_115_206_086_200,
+                    238_609_295, 238_609_296, 238_609_294)
 HUGE_INDEXES = (2**16, 2**31, 2**32, 2**32 + 1, 2**60, 2**63 - 1, 2**63, 2**63 + 1, 2**64 - 2, 2**64 - 1)
 
 
@@ -362,14 +363,16 @@ def most_cases(dice):
     """As many records as there may be, one less, one more, and counts that wrap in two bytes to 0, 1 and 3,600."""
     streaked = {letter: numbers + (1,) * WRAPPED for letter, numbers in streaks(MOST, dice).items()}
     for count in (MOST - 1, MOST, MOST + 1, WRAPPED - 1, WRAPPED, WRAPPED + 1, WRAPPED + MOST):
-        rooms = sorted({0, 7, 8, 26, 64_807, 64_808, 64_809, 64_825, 64_826, MOST_WRITTEN, *(min(file_size(count), 64_800) + k for k in (-1, 0, 1))})
+        sizes = {file_size(short) + more for short in (MOST - 1, MOST, MOST + 1) for more in (-1, 0, 1)}
+        rooms = sorted({0, 7, 8, 26, MOST_WRITTEN, *sizes})
         asked = looked_at(count) + [record_line(index) for index in (255, 256, 1000, MOST - 2)] if count <= MOST else [FORM_LINE]
         yield {letter: numbers[:count] for letter, numbers in streaked.items()}, [*map(write_line, rooms), *asked]
 
 
 def most_uneven_cases(dice):
-    """One column in turn has as many numbers as there may be, or one more, and the others have more."""
-    for (short, others), letter in product(((MOST, MOST + 1), (MOST, WRAPPED), (MOST + 1, WRAPPED), (0, WRAPPED), (1, WRAPPED)), LETTERS):
+    """One column in turn has as many numbers as there may be, one more, one or none, and the others have more."""
+    lengths = (MOST, MOST + 1), (MOST, WRAPPED), (MOST + 1, WRAPPED), (0, WRAPPED), (1, WRAPPED)
+    for (short, others), letter in product(lengths, LETTERS):
         yield flat(others) | {letter: (2,) * short}, [write_line(file_size(min(short, MOST))), FORM_LINE]
 
 
@@ -392,9 +395,10 @@ def largest_count_cases(dice):
 
 
 SECTIONS = (unset_cases, worked_cases, field_cases, field_place_cases, room_cases, read_room_cases, empty_read_cases, uneven_cases,
-            random_length_cases, cut_cases, repeated_trailer_cases, bad_length_cases, bad_count_cases, bad_distance_cases, wrapping_cases,
-            damage_cases, short_file_cases, small_order_cases, index_cases, bare_index_cases, read_and_written_cases, written_and_read_cases,
-            kept_file_cases, unlike_cases, order_cases, most_read_cases, most_cases, most_uneven_cases, largest_count_cases)
+            random_length_cases, cut_cases, repeated_trailer_cases, bad_length_cases, bad_count_cases, bad_distance_cases,
+            wrapping_cases, damage_cases, short_file_cases, small_order_cases, index_cases, bare_index_cases, read_and_written_cases,
+            written_and_read_cases, kept_file_cases, unlike_cases, order_cases, most_read_cases, most_cases, most_uneven_cases,
+            largest_count_cases)
 
 
 def cases():
