@@ -2,6 +2,8 @@
 use crate::answers;
 use crate::conversions;
 use crate::fields;
+use crate::files;
+use crate::files::File;
 use crate::lists;
 use crate::lists::Lists;
 use crate::parts;
@@ -26,6 +28,18 @@ const ANSWER: u64 = 0x616e73776572;
 const LIST: u64 = 0x6c697374;
 
 const SAMPLES: u64 = 0x73616d706c6573;
+
+const COLUMN: u64 = 0x636f6c756d6e;
+
+const FILE: u64 = 0x66696c65;
+
+const WRITE: u64 = 0x7772697465;
+
+const FORM: u64 = 0x666f726d;
+
+const RECORD: u64 = 0x7265636f7264;
+
+const READ: u64 = 0x72656164;
 
 // A command of decimal numbers, or a conversion.
 fn run(
@@ -61,35 +75,67 @@ fn answer(rest: &[u8], lists: &Lists, out: &mut [u8; 65536], at: usize) -> usize
     answers::answer(kind, values, count, out, at)
 }
 
-// The rest of a line after the word `list`: the list's name, and the numbers that it is to hold.
-fn list(rest: &[u8], lists: &mut Lists, out: &mut [u8; 65536], at: usize) -> usize {
+// The rest of a line after the word `list` or `column`: the list's name, and the numbers that it is to hold.
+fn list(command: u64, rest: &[u8], lists: &mut Lists, out: &mut [u8; 65536], at: usize) -> usize {
     let start = 0;
     let end = fields::find(rest, start, b' ');
-    let list = lists::named(fields::word(&rest[start..end]));
+    let list = lists::named(command == COLUMN, fields::word(&rest[start..end]));
     let count = lists::replace(lists, list, &rest[end..]);
     put::last(out, at, count as u64)
+}
+
+// The rest of a line after the word `file`, with the space before it: the bytes that the file is to hold.
+fn replace_file(
+    rest: &[u8],
+    lists: &mut Lists,
+    file: &mut File,
+    out: &mut [u8; 65536],
+    at: usize,
+) -> usize {
+    let length = files::replace(file, rest);
+    lists::set_file_length(lists, length);
+    put::last(out, at, length as u64)
+}
+
+// A line by its first word, and what follows with the space before it.
+fn run_text(
+    command: u64,
+    text: &[u8],
+    lists: &mut Lists,
+    file: &mut File,
+    out: &mut [u8; 65536],
+    at: usize,
+) -> usize {
+    let mut values = [0u32; 64];
+    let count = fields::numbers(text, conversions::hex_fields(command), &mut values);
+    let length = lists::file_length(lists);
+    match command {
+        ANSWER => answer(fields::after_space(text), lists, out, at),
+        LIST | COLUMN => list(command, fields::after_space(text), lists, out, at),
+        FILE => replace_file(text, lists, file, out, at),
+        WRITE => files::write(values[0], lists, file, out, at),
+        FORM => files::form(files::held(file, length), out, at),
+        RECORD => files::record(
+            files::held(file, length),
+            fields::long_decimal(text),
+            out,
+            at,
+        ),
+        READ => files::read(files::held(file, length), values, out, at),
+        _ => run(command, values, count, lists, out, at),
+    }
 }
 
 // Answers one line, without its newline.
 pub(crate) fn answer_line(
     line: &[u8],
     lists: &mut Lists,
+    file: &mut File,
     out: &mut [u8; 65536],
     at: usize,
 ) -> usize {
     let start = 0;
     let end = fields::find(line, start, b' ');
     let command = fields::word(&line[start..end]);
-    if end < line.len() {
-        let next = end + 1;
-        if command == ANSWER {
-            return answer(&line[next..], lists, out, at);
-        }
-        if command == LIST {
-            return list(&line[next..], lists, out, at);
-        }
-    }
-    let mut values = [0u32; 64];
-    let count = fields::numbers(&line[end..], conversions::hex_fields(command), &mut values);
-    run(command, values, count, lists, out, at)
+    run_text(command, &line[end..], lists, file, out, at)
 }

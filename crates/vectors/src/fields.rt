@@ -69,6 +69,39 @@ pub(crate) fn decimal(text: &[u8]) -> u32 {
     value
 }
 
+// Ten times a number; only the last 64 bits are kept.
+fn ten_times(value: u64) -> u64 {
+    let twice = std::num::wrapping_add_u64(value, value);
+    let four_times = std::num::wrapping_add_u64(twice, twice);
+    let five_times = std::num::wrapping_add_u64(four_times, value);
+    std::num::wrapping_add_u64(five_times, five_times)
+}
+
+// A decimal number; only the last 64 bits are kept.
+pub(crate) fn long_decimal(text: &[u8]) -> u64 {
+    let mut value: u64 = 0;
+    let mut i = 0;
+    while i < text.len() {
+        value = std::num::wrapping_add_u64(ten_times(value), digit(text[i]));
+        i += 1;
+    }
+    value
+}
+
+// The byte of two hexadecimal digits.
+pub(crate) fn byte_of(high: u8, low: u8) -> u8 {
+    (digit(high) * 16 + digit(low)) as u8
+}
+
+// What follows a space, or nothing where a text has no byte.
+pub(crate) fn after_space(text: &[u8]) -> &[u8] {
+    if text.len() == 0 {
+        return text;
+    }
+    let start = 1;
+    &text[start..]
+}
+
 // Takes one byte: a space begins the next number, any other is a digit of the number begun last.
 fn take_byte(byte: u8, hex_fields: usize, count: usize, values: &mut [u32; 64]) -> usize
     requires { ⌜ count ≤ 64 ⌝ }

@@ -1,13 +1,17 @@
 // Runs test vectors: one to a line of standard input, its answer to a line of standard output.
 mod answers;
+mod columns;
 mod commands;
 mod conversions;
 mod fields;
+mod files;
 mod lists;
 mod parts;
 mod put;
 mod samples;
+mod targets;
 
+use files::File;
 use lists::Lists;
 
 // The most bytes of a line that are held; a full list of numbers of ten digits takes 5,638.
@@ -61,11 +65,12 @@ fn answer_held(
     line: &[u8],
     held: usize,
     lists: &mut Lists,
+    file: &mut File,
     out: &mut [u8; 65536],
     waiting: usize,
 ) -> usize {
     let n = io::count(as_count(held), line);
-    commands::answer_line(&line[..n], lists, out, waiting)
+    commands::answer_line(&line[..n], lists, file, out, waiting)
 }
 
 // Takes one byte of input: a newline ends the line that is held.
@@ -73,6 +78,7 @@ fn take_byte(
     byte: u8,
     line: &mut Line,
     lists: &mut Lists,
+    file: &mut File,
     out: &mut [u8; 65536],
     progress: Progress,
 ) -> Progress {
@@ -82,7 +88,7 @@ fn take_byte(
             waiting: progress.waiting,
         };
     }
-    let longer = answer_held(line, progress.held, lists, out, progress.waiting);
+    let longer = answer_held(line, progress.held, lists, file, out, progress.waiting);
     Progress {
         held: 0,
         waiting: with_room(out, longer),
@@ -90,7 +96,13 @@ fn take_byte(
 }
 
 // Takes a block of input and writes its output; answers how many bytes of a line are then held.
-fn take_block(input: &[u8], line: &mut Line, held: usize, lists: &mut Lists) -> usize {
+fn take_block(
+    input: &[u8],
+    line: &mut Line,
+    held: usize,
+    lists: &mut Lists,
+    file: &mut File,
+) -> usize {
     let mut out = io::large_buffer();
     let mut progress = Progress {
         held: held,
@@ -98,7 +110,7 @@ fn take_block(input: &[u8], line: &mut Line, held: usize, lists: &mut Lists) -> 
     };
     let mut i = 0;
     while i < input.len() {
-        progress = take_byte(input[i], line, lists, &mut out, progress);
+        progress = take_byte(input[i], line, lists, file, &mut out, progress);
         i += 1;
     }
     write_out(out, progress.waiting);
@@ -106,7 +118,7 @@ fn take_block(input: &[u8], line: &mut Line, held: usize, lists: &mut Lists) -> 
 }
 
 // Reads once.
-fn read_some(line: &mut Line, held: usize, lists: &mut Lists) -> Turn {
+fn read_some(line: &mut Line, held: usize, lists: &mut Lists, file: &mut File) -> Turn {
     let mut block = io::large_buffer();
     let got = libc::read(0, &mut block);
     if got <= 0 {
@@ -117,32 +129,33 @@ fn read_some(line: &mut Line, held: usize, lists: &mut Lists) -> Turn {
     }
     let n = io::count(got, &block);
     Turn {
-        held: take_block(&block[..n], line, held, lists),
+        held: take_block(&block[..n], line, held, lists, file),
         more: true,
     }
 }
 
 // Answers a last line that has no newline.
-fn finish(line: Line, held: usize, lists: &mut Lists) {
+fn finish(line: Line, held: usize, lists: &mut Lists, file: &mut File) {
     if held > 0 {
         let mut out = io::large_buffer();
-        let waiting = answer_held(&line, held, lists, &mut out, 0);
+        let waiting = answer_held(&line, held, lists, file, &mut out, 0);
         write_out(out, waiting);
     }
 }
 
 fn main() {
     let mut line = [0u8; LINE_ROOM];
-    let mut lists = lists::empty();
+    let mut lists = [0u32; lists::SIZE];
+    let mut file = [0u8; files::SIZE];
     let mut held = 0;
     let mut turns = u64::MAX;
     while turns > 0 {
-        let turn = read_some(&mut line, held, &mut lists);
+        let turn = read_some(&mut line, held, &mut lists, &mut file);
         held = turn.held;
         if !turn.more {
             break;
         }
         turns -= 1;
     }
-    finish(line, held, &mut lists);
+    finish(line, held, &mut lists, &mut file);
 }

@@ -28,7 +28,7 @@ pub(crate) fn point(place: u32, out: &mut [u8; 65536], at: usize) -> usize {
 }
 
 // A checksum with one more number.
-fn with_number(sum: u64, n: u32) -> u64
+pub(crate) fn with_number(sum: u64, n: u32) -> u64
     requires { ⌜ sum < 4294967291 ⌝ }
     ensures { λ r. ⌜ r < 4294967291 ⌝ }
 {

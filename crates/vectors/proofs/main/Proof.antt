@@ -4,13 +4,10 @@ use Rattle.vectors.proofs.main.Statement.{statement}
 use Rattle.vectors.proofs.main.Tie as tie
 
 abbrev Inv-loop : tie.InvT-loop
-Inv-loop line₀ lists₀ held₀ turns₀ line lists held turns = Unit {0}
+Inv-loop line₀ lists₀ file₀ held₀ turns₀ line lists file held turns = Unit {0}
 
 abbrev μ-loop : tie.MeasureT-loop
-μ-loop line₀ lists₀ held₀ turns₀ line lists held turns = turns
-
-empty-requires : tie.Need-empty-requires Inv-loop μ-loop
-empty-requires c κs = search needs
+μ-loop line₀ lists₀ file₀ held₀ turns₀ line lists file held turns = turns
 
 loop-holds : tie.Need-loop-holds Inv-loop μ-loop
 loop-holds c = search needs
@@ -39,7 +36,6 @@ main-spec =
     (tie.spec
     Inv-loop
     μ-loop
-    empty-requires
     loop-holds
     read-some-requires
     sub-turns

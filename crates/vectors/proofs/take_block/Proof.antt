@@ -6,10 +6,10 @@ use Rattle.vectors.proofs.take_block.Statement.{statement}
 use Rattle.vectors.proofs.take_block.Tie as tie
 
 abbrev Inv-loop : tie.InvT-loop
-Inv-loop input line₀ held lists₀ out₀ progress₀ i₀ line lists out progress i = i ≤ length input
+Inv-loop input line₀ held lists₀ file₀ out₀ progress₀ i₀ line lists file out progress i = i ≤ length input
 
 abbrev μ-loop : tie.MeasureT-loop
-μ-loop input line₀ held lists₀ out₀ progress₀ i₀ line lists out progress i = length input - i
+μ-loop input line₀ held lists₀ file₀ out₀ progress₀ i₀ line lists file out progress i = length input - i
 
 large-buffer-requires : tie.Need-large-buffer-requires Inv-loop μ-loop
 large-buffer-requires c κs = search needs
