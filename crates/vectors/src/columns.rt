@@ -1,5 +1,4 @@
-// Columns of a list of records, whose numbers are held as they stand in a line, in the types of their fields.
-use crate::lists::COLUMN_ROOM;
+// Columns of records: numbers that are held in 32 bits, in the types of their fields.
 ghost use Prim.Native.Nat.{_≤_};
 
 // The lowest 8 bits of a number.
@@ -28,59 +27,50 @@ pub(crate) fn lesser(a: usize, b: usize) -> usize
     if a < b { a } else { b }
 }
 
-// Puts numbers into a column of 8 bits each; answers how many of them have room.
-pub(crate) fn fill_8(numbers: &[u32], column: &mut [u8]) -> usize {
-    let count = lesser(numbers.len(), column.len());
+// Puts numbers into a column of 8 bits each; answers the part of it that they take.
+pub(crate) fn fill_8<'a>(numbers: &[u32], column: &'a mut [u8]) -> &'a mut [u8] {
+    let start = 0;
+    let end = lesser(numbers.len(), column.len());
     let mut i = 0;
-    while i < count {
+    while i < end {
         column[i] = low_8(numbers[i]);
         i += 1;
     }
-    count
+    &mut column[start..end]
 }
 
 // The same for 16 bits each.
-pub(crate) fn fill_16(numbers: &[u32], column: &mut [u16]) -> usize {
-    let count = lesser(numbers.len(), column.len());
+pub(crate) fn fill_16<'a>(numbers: &[u32], column: &'a mut [u16]) -> &'a mut [u16] {
+    let start = 0;
+    let end = lesser(numbers.len(), column.len());
     let mut i = 0;
-    while i < count {
+    while i < end {
         column[i] = low_16(numbers[i]);
         i += 1;
     }
-    count
+    &mut column[start..end]
 }
 
 // The same for 16 bits each, signed.
-pub(crate) fn fill_signed(numbers: &[u32], column: &mut [i16]) -> usize {
-    let count = lesser(numbers.len(), column.len());
+pub(crate) fn fill_signed<'a>(numbers: &[u32], column: &'a mut [i16]) -> &'a mut [i16] {
+    let start = 0;
+    let end = lesser(numbers.len(), column.len());
     let mut i = 0;
-    while i < count {
+    while i < end {
         column[i] = signed_16(numbers[i]);
         i += 1;
     }
-    count
+    &mut column[start..end]
 }
 
-// The first numbers of a column of 8 bits.
-pub(crate) fn first_8(column: &[u8; COLUMN_ROOM], count: usize) -> &[u8] {
+// The same for 32 bits each.
+pub(crate) fn fill_32<'a>(numbers: &[u32], column: &'a mut [u32]) -> &'a mut [u32] {
     let start = 0;
-    let end = lesser(count, COLUMN_ROOM);
-    let all = &column[..];
-    &all[start..end]
-}
-
-// The first numbers of a column of 16 bits.
-pub(crate) fn first_16(column: &[u16; COLUMN_ROOM], count: usize) -> &[u16] {
-    let start = 0;
-    let end = lesser(count, COLUMN_ROOM);
-    let all = &column[..];
-    &all[start..end]
-}
-
-// The first numbers of a column of signed numbers.
-pub(crate) fn first_signed(column: &[i16; COLUMN_ROOM], count: usize) -> &[i16] {
-    let start = 0;
-    let end = lesser(count, COLUMN_ROOM);
-    let all = &column[..];
-    &all[start..end]
+    let end = lesser(numbers.len(), column.len());
+    let mut i = 0;
+    while i < end {
+        column[i] = numbers[i];
+        i += 1;
+    }
+    &mut column[start..end]
 }

@@ -7,6 +7,7 @@ use crate::lists::List;
 use crate::lists::Lists;
 use crate::put;
 use crate::targets;
+use crate::targets::READ_ROOM;
 use crate::targets::WRITE_ROOM;
 use records::Form;
 use records::Outcome;
@@ -110,16 +111,18 @@ fn keep(file: &mut File, target: &[u8; WRITE_ROOM], count: usize) -> u32 {
     length
 }
 
-// `refusal 0` with more to follow on its line.
-fn put_refused(refusal: Refusal, out: &mut [u8; 65536], at: usize) -> usize {
-    let first = put::number(out, at, Refusal::number(refusal) as u64);
-    put::number(out, first, 0)
-}
-
-// `0 count` with more to follow on its line.
-fn put_done(count: usize, out: &mut [u8; 65536], at: usize) -> usize {
-    let first = put::number(out, at, 0);
-    put::number(out, first, count as u64)
+// `refusal count` with more to follow on its line.
+fn put_outcome(outcome: Outcome, out: &mut [u8; 65536], at: usize) -> usize {
+    match outcome {
+        Outcome::Refused(refusal) => {
+            let first = put::number(out, at, Refusal::number(refusal) as u64);
+            put::number(out, first, 0)
+        }
+        Outcome::Done(count) => {
+            let first = put::number(out, at, 0);
+            put::number(out, first, count as u64)
+        }
+    }
 }
 
 // The columns that are held, written to a target.
@@ -130,21 +133,21 @@ fn write_held(lists: &Lists, target: &mut [u8]) -> Outcome {
     let mut duv = [0i16; COLUMN_ROOM];
     let mut steps = [0u8; COLUMN_ROOM];
     let mut class = [0u8; COLUMN_ROOM];
-    let place_count = columns::fill_16(lists::numbers(lists, List::Place), &mut place);
-    let low_count = columns::fill_16(lists::numbers(lists, List::Low), &mut low);
-    let high_count = columns::fill_16(lists::numbers(lists, List::High), &mut high);
-    let duv_count = columns::fill_signed(lists::numbers(lists, List::Duv), &mut duv);
-    let steps_count = columns::fill_8(lists::numbers(lists, List::Steps), &mut steps);
-    let class_count = columns::fill_8(lists::numbers(lists, List::Class), &mut class);
+    let places = columns::fill_16(lists::numbers(lists, List::Place), &mut place);
+    let lows = columns::fill_16(lists::numbers(lists, List::Low), &mut low);
+    let highs = columns::fill_16(lists::numbers(lists, List::High), &mut high);
+    let duvs = columns::fill_signed(lists::numbers(lists, List::Duv), &mut duv);
+    let step_counts = columns::fill_8(lists::numbers(lists, List::Steps), &mut steps);
+    let classes = columns::fill_8(lists::numbers(lists, List::Class), &mut class);
     records::write_records(
         lists::numbers(lists, List::U),
         lists::numbers(lists, List::V),
-        columns::first_16(&place, place_count),
-        columns::first_16(&low, low_count),
-        columns::first_16(&high, high_count),
-        columns::first_signed(&duv, duv_count),
-        columns::first_8(&steps, steps_count),
-        columns::first_8(&class, class_count),
+        &places[..],
+        &lows[..],
+        &highs[..],
+        &duvs[..],
+        &step_counts[..],
+        &classes[..],
         target,
     )
 }
@@ -157,10 +160,10 @@ pub(crate) fn write(
     out: &mut [u8; 65536],
     at: usize,
 ) -> usize {
-    let mut target = targets::bytes();
-    let start = 0;
-    let end = columns::lesser(room as usize, WRITE_ROOM);
-    let outcome = write_held(lists, &mut target[start..end]);
+    let pattern = targets::pattern();
+    let mut target = [0u8; WRITE_ROOM];
+    let part = columns::fill_8(targets::first(&pattern, room), &mut target);
+    let outcome = write_held(lists, part);
     if let Outcome::Done(count) = outcome {
         let length = keep(file, &target, count);
         lists::set_file_length(lists, length);
@@ -200,70 +203,35 @@ pub(crate) fn record(file: &[u8], index: u64, out: &mut [u8; 65536], at: usize) 
     put_record(records::record_at(file, index as usize), out, at)
 }
 
-// `refusal count` with more to follow on its line.
-fn put_outcome(outcome: Outcome, out: &mut [u8; 65536], at: usize) -> usize {
-    match outcome {
-        Outcome::Refused(refusal) => put_refused(refusal, out, at),
-        Outcome::Done(count) => put_done(count, out, at),
-    }
-}
-
-// Two numbers with more to follow on their line.
-fn put_pair(out: &mut [u8; 65536], at: usize, first: u64, second: u64) -> usize {
-    let next = put::number(out, at, first);
-    put::number(out, next, second)
-}
-
 // `refusal count` and eight checksums of reading the file into columns of eight rooms.
 pub(crate) fn read(file: &[u8], rooms: [u32; 64], out: &mut [u8; 65536], at: usize) -> usize {
-    let mut u = targets::column_32();
-    let mut v = targets::column_32();
-    let mut place = targets::column_16();
-    let mut low = targets::column_16();
-    let mut high = targets::column_16();
-    let mut duv = targets::column_signed();
-    let mut steps = targets::column_8();
-    let mut class = targets::column_8();
-    let ends = targets::ends_of(rooms);
-    let start = 0;
-    let u_end = ends.u;
-    let v_end = ends.v;
-    let place_end = ends.place;
-    let low_end = ends.low;
-    let high_end = ends.high;
-    let duv_end = ends.duv;
-    let steps_end = ends.steps;
-    let class_end = ends.class;
+    let pattern = targets::pattern();
+    let mut u = [0u32; READ_ROOM];
+    let mut v = [0u32; READ_ROOM];
+    let mut place = [0u16; READ_ROOM];
+    let mut low = [0u16; READ_ROOM];
+    let mut high = [0u16; READ_ROOM];
+    let mut duv = [0i16; READ_ROOM];
+    let mut steps = [0u8; READ_ROOM];
+    let mut class = [0u8; READ_ROOM];
     let outcome = records::read_records(
         file,
-        &mut u[start..u_end],
-        &mut v[start..v_end],
-        &mut place[start..place_end],
-        &mut low[start..low_end],
-        &mut high[start..high_end],
-        &mut duv[start..duv_end],
-        &mut steps[start..steps_end],
-        &mut class[start..class_end],
+        columns::fill_32(targets::first(&pattern, rooms[0]), &mut u),
+        columns::fill_32(targets::first(&pattern, rooms[1]), &mut v),
+        columns::fill_16(targets::first(&pattern, rooms[2]), &mut place),
+        columns::fill_16(targets::first(&pattern, rooms[3]), &mut low),
+        columns::fill_16(targets::first(&pattern, rooms[4]), &mut high),
+        columns::fill_signed(targets::first(&pattern, rooms[5]), &mut duv),
+        columns::fill_8(targets::first(&pattern, rooms[6]), &mut steps),
+        columns::fill_8(targets::first(&pattern, rooms[7]), &mut class),
     );
-    let a = put_outcome(outcome, out, at);
-    let b = put_pair(
-        out,
-        a,
-        targets::sum_32(&u, rooms[0]),
-        targets::sum_32(&v, rooms[1]),
-    );
-    let c = put_pair(
-        out,
-        b,
-        targets::sum_16(&place, rooms[2]),
-        targets::sum_16(&low, rooms[3]),
-    );
-    let d = put_pair(
-        out,
-        c,
-        targets::sum_16(&high, rooms[4]),
-        targets::sum_signed(&duv, rooms[5]),
-    );
-    let e = put::number(out, d, targets::sum_8(&steps, rooms[6]));
-    put::last(out, e, targets::sum_8(&class, rooms[7]))
+    let u_at = put_outcome(outcome, out, at);
+    let v_at = put::number(out, u_at, targets::sum_32(&u, rooms[0]));
+    let place_at = put::number(out, v_at, targets::sum_32(&v, rooms[1]));
+    let low_at = put::number(out, place_at, targets::sum_16(&place, rooms[2]));
+    let high_at = put::number(out, low_at, targets::sum_16(&low, rooms[3]));
+    let duv_at = put::number(out, high_at, targets::sum_16(&high, rooms[4]));
+    let steps_at = put::number(out, duv_at, targets::sum_signed(&duv, rooms[5]));
+    let class_at = put::number(out, steps_at, targets::sum_8(&steps, rooms[6]));
+    put::last(out, class_at, targets::sum_8(&class, rooms[7]))
 }

@@ -3,7 +3,6 @@
 use crate::columns;
 use crate::parts;
 use crate::put;
-ghost use Prim.Native.Nat.{_≤_};
 
 // The most bytes that are written.
 pub(crate) const WRITE_ROOM: usize = 65536;
@@ -11,8 +10,10 @@ pub(crate) const WRITE_ROOM: usize = 65536;
 // The most records that are read.
 pub(crate) const READ_ROOM: usize = 4096;
 
+pub(crate) type Pattern = [u32; WRITE_ROOM];
+
 // The pattern, before it is brought to the width of a target's numbers.
-fn pattern() -> [u32; WRITE_ROOM] {
+pub(crate) fn pattern() -> Pattern {
     let mut numbers = [0u32; WRITE_ROOM];
     let mut i = 0;
     while i < WRITE_ROOM {
@@ -22,77 +23,12 @@ fn pattern() -> [u32; WRITE_ROOM] {
     numbers
 }
 
-pub(crate) fn bytes() -> [u8; WRITE_ROOM] {
-    let numbers = pattern();
-    let mut target = [0u8; WRITE_ROOM];
-    columns::fill_8(&numbers, &mut target);
-    target
-}
-
-pub(crate) fn column_8() -> [u8; READ_ROOM] {
-    let numbers = pattern();
-    let mut column = [0u8; READ_ROOM];
-    columns::fill_8(&numbers, &mut column);
-    column
-}
-
-pub(crate) fn column_16() -> [u16; READ_ROOM] {
-    let numbers = pattern();
-    let mut column = [0u16; READ_ROOM];
-    columns::fill_16(&numbers, &mut column);
-    column
-}
-
-pub(crate) fn column_signed() -> [i16; READ_ROOM] {
-    let numbers = pattern();
-    let mut column = [0i16; READ_ROOM];
-    columns::fill_signed(&numbers, &mut column);
-    column
-}
-
-pub(crate) fn column_32() -> [u32; READ_ROOM] {
-    let mut column = [0u32; READ_ROOM];
-    let mut i = 0;
-    while i < READ_ROOM {
-        column[i] = (i * 7 + 3) as u32;
-        i += 1;
-    }
-    column
-}
-
-// Where columns of some rooms end.
-pub(crate) struct Ends {
-    pub(crate) u: usize,
-    pub(crate) v: usize,
-    pub(crate) place: usize,
-    pub(crate) low: usize,
-    pub(crate) high: usize,
-    pub(crate) duv: usize,
-    pub(crate) steps: usize,
-    pub(crate) class: usize,
-}
-
-// Where a column of a room ends, brought within what there is.
-fn end_of(room: u32) -> usize
-    ensures { λ r. ⌜ r ≤ 4096 ⌝ }
-{
-    columns::lesser(room as usize, READ_ROOM)
-}
-
-// Where the eight columns end whose rooms are the first numbers.
-pub(crate) fn ends_of(rooms: [u32; 64]) -> Ends
-    ensures { λ r. ⌜ (r .u ≤ 4096) × (r .v ≤ 4096) × (r .place ≤ 4096) × (r .low ≤ 4096) × (r .high ≤ 4096) × (r .duv ≤ 4096) × (r .steps ≤ 4096) × (r .class ≤ 4096) ⌝ }
-{
-    Ends {
-        u: end_of(rooms[0]),
-        v: end_of(rooms[1]),
-        place: end_of(rooms[2]),
-        low: end_of(rooms[3]),
-        high: end_of(rooms[4]),
-        duv: end_of(rooms[5]),
-        steps: end_of(rooms[6]),
-        class: end_of(rooms[7]),
-    }
+// As many numbers of the pattern as a target has room for.
+pub(crate) fn first(pattern: &Pattern, room: u32) -> &[u32] {
+    let start = 0;
+    let end = columns::lesser(room as usize, WRITE_ROOM);
+    let all = &pattern[..];
+    &all[start..end]
 }
 
 // The 16 bits that hold a signed number.
@@ -112,7 +48,7 @@ fn wide_16(n: u16) -> u32 {
     n as u32
 }
 
-// The checksum of the first bytes of a target, as many as its room is.
+// The checksum of a target of bytes, as far as its room goes.
 pub(crate) fn sum_bytes(target: &[u8; WRITE_ROOM], room: u32) -> u64 {
     let count = columns::lesser(room as usize, WRITE_ROOM);
     let mut sum: u64 = 0;
@@ -124,9 +60,9 @@ pub(crate) fn sum_bytes(target: &[u8; WRITE_ROOM], room: u32) -> u64 {
     sum
 }
 
-// The same of a column of 8 bits.
+// The same for a column of 8 bits each.
 pub(crate) fn sum_8(column: &[u8; READ_ROOM], room: u32) -> u64 {
-    let count = end_of(room);
+    let count = columns::lesser(room as usize, READ_ROOM);
     let mut sum: u64 = 0;
     let mut i = 0;
     while i < count {
@@ -136,9 +72,9 @@ pub(crate) fn sum_8(column: &[u8; READ_ROOM], room: u32) -> u64 {
     sum
 }
 
-// The same of a column of 16 bits.
+// The same for a column of 16 bits each.
 pub(crate) fn sum_16(column: &[u16; READ_ROOM], room: u32) -> u64 {
-    let count = end_of(room);
+    let count = columns::lesser(room as usize, READ_ROOM);
     let mut sum: u64 = 0;
     let mut i = 0;
     while i < count {
@@ -148,9 +84,9 @@ pub(crate) fn sum_16(column: &[u16; READ_ROOM], room: u32) -> u64 {
     sum
 }
 
-// The same of a column of signed numbers.
+// The same for a column of 16 bits each, signed.
 pub(crate) fn sum_signed(column: &[i16; READ_ROOM], room: u32) -> u64 {
-    let count = end_of(room);
+    let count = columns::lesser(room as usize, READ_ROOM);
     let mut sum: u64 = 0;
     let mut i = 0;
     while i < count {
@@ -160,9 +96,9 @@ pub(crate) fn sum_signed(column: &[i16; READ_ROOM], room: u32) -> u64 {
     sum
 }
 
-// The same of a column of 32 bits.
+// The same for a column of 32 bits each.
 pub(crate) fn sum_32(column: &[u32; READ_ROOM], room: u32) -> u64 {
-    let count = end_of(room);
+    let count = columns::lesser(room as usize, READ_ROOM);
     let mut sum: u64 = 0;
     let mut i = 0;
     while i < count {
