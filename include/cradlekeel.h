@@ -1,4 +1,4 @@
-/* Cradlekeel: the correlated colour temperature, Duv and temperature class of one colour reading.
+/* Cradlekeel: the correlated colour temperature, Duv and temperature class of one colour reading, and files of such answers.
  *
  * Build the library with `make lib`, and again after `.ci/run`, which empties target/; link target/lib/libcradlekeel.a, or
  * target/lib/libcradlekeel.so with -Wl,-rpath,"$PWD/target/lib". From examples/lamp.c, a whole program:
@@ -12,13 +12,17 @@
  * Promised of every function, for every value of its arguments, and proved of the code that the library is compiled from
  * (crates/cct_c and the crates below it):
  *   - it returns, and what it returns is the answer that the definitions give (README.md lists them in their order);
- *   - it writes nothing through `edges`, nor through any other pointer that it takes.
+ *   - it writes nothing through a pointer to const;
+ *   - a target (any other pointer: of ck_write_records the file, of ck_read_records the columns) gets all that belongs there;
+ *   - on a refusal a target gets nothing, and beyond what is written it always keeps what it held.
  * The functions keep nothing between calls and allocate nothing, so threads may call them at the same time.
  *
  * Owed by the caller of every function: `edges` points to `edge_count` numbers of 32 bits that can be read and that no
  * other thread writes during the call. With an `edge_count` of 0 nothing is read and `edges` may be NULL. The same is owed of
- * each other pointer with its count; the lists may overlap or be one. Floats round to nearest during the call, as they do
- * unless the program has changed the rounding mode (fesetround and the like).
+ * each other pointer with its count, in numbers of its own type; what is only read may overlap or be one. A target can be
+ * written too, no other thread uses it during the call, and it overlaps nothing else that is handed over: no other target, no
+ * list, no file. Floats round to nearest during the call, as they do unless the program has changed the rounding mode
+ * (fesetround and the like).
  */
 #ifndef CRADLEKEEL_H
 #define CRADLEKEEL_H
@@ -45,6 +49,17 @@ enum {
     CK_TOO_FAR = 5,           /* more than 0.030 in (u, v) from each of the 24 stored points of the blackbody locus */
     CK_TOO_HOT = 6,           /* beyond the locus's 20,000 K end */
     CK_TOO_COOL = 7           /* beyond the locus's 1600 K end */
+};
+
+/* Why a record file was not written or not read: the value of `refusal` in ck_done. Of this list too the first that applies is
+ * given; writing can meet the last two only. */
+enum {
+    CK_NO_TRAILER = 13,        /* the file is shorter than 8 bytes */
+    CK_BAD_RECORD_LENGTH = 14, /* the record length in its trailer is not 18 */
+    CK_BAD_TRAILER = 15,       /* the trailer does not point back by 18 bytes for each record of its count, or the file is not
+                                  exactly those records and the trailer */
+    CK_TOO_MANY_RECORDS = 11,  /* over 3,600 records */
+    CK_NO_ROOM = 12            /* a target is too small; one that is just large enough is not */
 };
 
 /* The value of `class_index` where no class is named. */
@@ -111,6 +126,65 @@ ck_answer ck_read_micro(uint32_t u, uint32_t v, const uint32_t *edges, size_t ed
 ck_answer ck_read_samples(const uint32_t *samples, size_t sample_count, const uint32_t *x_bar, size_t x_count,
                           const uint32_t *y_bar, size_t y_count, const uint32_t *z_bar, size_t z_count, const uint32_t *edges,
                           size_t edge_count, uint32_t max_steps);
+
+/* --- Record files --------------------------------------------------------------------------------------------------------
+ *
+ * A record file keeps readings with their answers: 18 bytes for each record, little-endian, its fields in the order of ck_record,
+ * and then a trailer of 8 bytes: the record length, 18, in 2 bytes, the count in 2, and in 4 the bytes from the trailer's start
+ * back to the first record. docs/FILES.md shows one byte by byte. A record may hold any number that fits its field: these
+ * functions check the form of a file, not what its records say. examples/records.c is a whole program. */
+
+enum { CK_RECORD_BYTES = 18, CK_TRAILER_BYTES = 8, CK_MOST_RECORDS = 3600 };
+
+/* One record; in the file it has no padding, as this struct may. */
+typedef struct ck_record {
+    uint32_t u, v;              /* the reading, in millionths */
+    uint16_t place, low, high;  /* these and the rest as in ck_whole */
+    int16_t duv;
+    uint8_t steps, class_index;
+} ck_record;
+
+/* What a function on files has done; `count` is 0 where it refused. */
+typedef struct ck_done {
+    size_t count;
+    uint8_t refusal; /* 0 done; else the refusal's number */
+} ck_done;
+
+/* Writes records to `file`. Field by field they stand in eight columns, and there are as many as the shortest column has numbers.
+ * `count` is how many bytes were written: 18 for each record, and 8. What `file` holds beyond them, up to `room`, stays.
+ * Refusals, in this order: CK_TOO_MANY_RECORDS, CK_NO_ROOM (`room` is less than the bytes to write). */
+ck_done ck_write_records(const uint32_t *u, size_t u_count, const uint32_t *v, size_t v_count, const uint16_t *place,
+                         size_t place_count, const uint16_t *low, size_t low_count, const uint16_t *high, size_t high_count,
+                         const int16_t *duv, size_t duv_count, const uint8_t *steps, size_t steps_count,
+                         const uint8_t *class_index, size_t class_count, uint8_t *file, size_t room);
+
+/* Reads the records of `file` into eight columns, which have room for as many as the shortest of them has numbers. `count` is how
+ * many were read. What a column holds beyond them stays.
+ * Refusals, in this order: CK_NO_TRAILER, CK_BAD_RECORD_LENGTH, CK_BAD_TRAILER, CK_TOO_MANY_RECORDS, CK_NO_ROOM (a column has
+ * fewer numbers than the file has records). */
+ck_done ck_read_records(const uint8_t *file, size_t length, uint32_t *u, size_t u_count, uint32_t *v, size_t v_count,
+                        uint16_t *place, size_t place_count, uint16_t *low, size_t low_count, uint16_t *high,
+                        size_t high_count, int16_t *duv, size_t duv_count, uint8_t *steps, size_t steps_count,
+                        uint8_t *class_index, size_t class_count);
+
+/* Whether the bytes are a record file, and `count`, how many records it has.
+ * Refusals, in this order: CK_NO_TRAILER, CK_BAD_RECORD_LENGTH, CK_BAD_TRAILER, CK_TOO_MANY_RECORDS. */
+ck_done ck_check_file(const uint8_t *file, size_t length);
+
+/* The record `index`, counted from 0, of the bytes, whatever follows the records; nothing of their form is checked. All zeros
+ * where the bytes end before the record does: for an `index` of length / 18 or more. Of a file that ck_check_file accepts, the
+ * records 0 to count - 1 are there and no other. */
+ck_record ck_record_at(const uint8_t *file, size_t length, size_t index);
+
+/* A record where `kept` is 1; all zeros where it is 0. */
+typedef struct ck_kept {
+    ck_record record;
+    uint8_t kept;
+} ck_kept;
+
+/* The record of a reading u, v in millionths and its answer, the member `whole` where that is a ck_answer. `kept` is 0 where the
+ * answer is a refusal, or has a number that is too large for its field; no answer of this library has one. */
+ck_kept ck_record_of(uint32_t u, uint32_t v, ck_whole answer);
 
 #ifdef __cplusplus
 }
