@@ -1,4 +1,5 @@
-"""Correlated colour temperature, Duv and temperature class of one colour reading, answered by Cradlekeel's proved library.
+"""Correlated colour temperature, Duv and temperature class of one colour reading, answered by Cradlekeel's proved library, and files
+of such answers.
 
 >>> import cradlekeel
 >>> answer = cradlekeel.read_xy(0.3127, 0.3290)
@@ -15,15 +16,24 @@ handed over: 0.3127 is answered as 0.312700003385543823..., 0.99999999 becomes 1
 exact. `read_micro` and `read_samples` take whole numbers and round nothing; `read_spectrum` makes whole numbers of a meter's
 values, which is tested and not proved.
 
-A reading that has no answer raises `Refusal`. A whole number that does not fit 32 bits raises `ValueError`.
+`to_bytes` and `read_records` make a file of records, readings with their answers, and read it:
+
+>>> record = cradlekeel.Record.of(219300, 327100, cradlekeel.read_micro(219300, 327100, steps=2))
+>>> cradlekeel.read_records(cradlekeel.to_bytes([record])) == [record]
+True
+
+A reading that has no answer, and a file that cannot be read, raise `Refusal`. A whole number that does not fit its 32 bits, or its
+field of a record, raises `ValueError`. The library writes to nothing that it is given but the target of `write_records`.
 """
 
 from ._library import LibraryMissing
 from .readings import EDGES, REASONS, STEPS, Answer, Refusal, read_micro, read_samples, read_uv, read_uv_prime, read_xy, read_xyz
+from .records import Record, check_file, read_records, record_at, to_bytes, write_records
 from .spectra import BadSpectrum, BelowZero, cie_1931, read_spectrum
 
-__all__ = ["EDGES", "REASONS", "STEPS", "Answer", "BadSpectrum", "BelowZero", "LibraryMissing", "Refusal", "cie_1931",
-           "read_micro", "read_samples", "read_spectrum", "read_uv", "read_uv_prime", "read_xy", "read_xyz"]
+__all__ = ["EDGES", "REASONS", "STEPS", "Answer", "BadSpectrum", "BelowZero", "LibraryMissing", "Record", "Refusal", "check_file",
+           "cie_1931", "read_micro", "read_records", "read_samples", "read_spectrum", "read_uv", "read_uv_prime", "read_xy", "read_xyz",
+           "record_at", "to_bytes", "write_records"]
 
-for _public in (Answer, BadSpectrum, BelowZero, LibraryMissing, Refusal):
+for _public in (Answer, BadSpectrum, BelowZero, LibraryMissing, Record, Refusal):
     _public.__module__ = __name__  # a traceback names them as their users do, as in cradlekeel.Refusal

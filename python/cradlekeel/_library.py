@@ -28,9 +28,41 @@ class FloatAnswer(ctypes.Structure):
     _fields_ = [("kelvin", ctypes.c_double), ("duv", ctypes.c_double), ("whole", WholeAnswer)]
 
 
+class StoredRecord(ctypes.Structure):
+    """`ck_record` of include/cradlekeel.h."""
+
+    _fields_ = [("u", ctypes.c_uint32), ("v", ctypes.c_uint32), ("place", ctypes.c_uint16), ("low", ctypes.c_uint16),
+                ("high", ctypes.c_uint16), ("duv", ctypes.c_int16), ("steps", ctypes.c_uint8), ("class_index", ctypes.c_uint8)]
+
+
+class Done(ctypes.Structure):
+    """`ck_done` of include/cradlekeel.h."""
+
+    _fields_ = [("count", ctypes.c_size_t), ("refusal", ctypes.c_uint8)]
+
+
+class Kept(ctypes.Structure):
+    """`ck_kept` of include/cradlekeel.h."""
+
+    _fields_ = [("record", StoredRecord), ("kept", ctypes.c_uint8)]
+
+
+def _reading(*numbers):
+    """What a function takes that answers a reading of these numbers, and what it returns."""
+    return [*numbers, *_LIST, ctypes.c_uint32], FloatAnswer
+
+
 _LIST = [ctypes.POINTER(ctypes.c_uint32), ctypes.c_size_t]
-_READINGS = {"ck_read_uv": 2 * [ctypes.c_float], "ck_read_uvp": 2 * [ctypes.c_float], "ck_read_xy": 2 * [ctypes.c_float],
-             "ck_read_xyz": 3 * [ctypes.c_float], "ck_read_micro": 2 * [ctypes.c_uint32], "ck_read_samples": 4 * _LIST}
+_FILE = [ctypes.c_void_p, ctypes.c_size_t]  # bytes that are only read go over as they are
+_TARGET = [ctypes.POINTER(ctypes.c_uint8), ctypes.c_size_t]
+_COLUMNS = [part for _, kind in StoredRecord._fields_ for part in (ctypes.POINTER(kind), ctypes.c_size_t)]
+_FUNCTIONS = {
+    "ck_read_uv": _reading(ctypes.c_float, ctypes.c_float), "ck_read_uvp": _reading(ctypes.c_float, ctypes.c_float),
+    "ck_read_xy": _reading(ctypes.c_float, ctypes.c_float), "ck_read_xyz": _reading(*3 * [ctypes.c_float]),
+    "ck_read_micro": _reading(ctypes.c_uint32, ctypes.c_uint32), "ck_read_samples": _reading(*4 * _LIST),
+    "ck_write_records": ([*_COLUMNS, *_TARGET], Done), "ck_read_records": ([*_FILE, *_COLUMNS], Done), "ck_check_file": (_FILE, Done),
+    "ck_record_at": ([*_FILE, ctypes.c_size_t], StoredRecord), "ck_record_of": ([ctypes.c_uint32, ctypes.c_uint32, WholeAnswer], Kept),
+}
 
 
 @functools.lru_cache(maxsize=None)
@@ -56,13 +88,12 @@ def c_function(name):
         function = getattr(library, name)
     except AttributeError:
         raise LibraryMissing(f"{library._name} has no function {name}: it is older than this package. Run: {_make_command()}") from None
-    function.argtypes = [*_READINGS[name], *_LIST, ctypes.c_uint32]
-    function.restype = FloatAnswer
+    function.argtypes, function.restype = _FUNCTIONS[name]
     return function
 
 
 def call(name, reading, edges, steps):
-    """One call of the C function `name`, its result as it is; a list among the numbers of the reading goes over with its count."""
+    """One call of the C function `name` on a reading, its result as it is; a list among the numbers goes over with its count."""
     given = [part for item in reading for part in (_as_list(item) if isinstance(item, list) else [item])]
     return c_function(name)(*given, *_as_list(edges), steps)
 
@@ -73,15 +104,17 @@ def _as_list(numbers):
 
 
 def u32(name, value, index=None):
-    """A whole number that fits 32 bits: ctypes would cut a larger one without a word."""
+    """A whole number that fits 32 bits."""
+    return whole(name if index is None else f"{name}[{index}]", value, ctypes.c_uint32)
+
+
+def whole(name, value, kind):
+    """A whole number that fits its type in C: ctypes would cut a larger one without a word."""
     try:
         number = operator.index(value)
     except TypeError:
-        raise TypeError(f"{_place(name, index)} is {value!r}, which is not a whole number") from None
-    if not 0 <= number < 2**32:
-        raise ValueError(f"{_place(name, index)} is {number}, which does not fit an unsigned whole number of 32 bits")
+        raise TypeError(f"{name} is {value!r}, which is not a whole number") from None
+    if kind(number).value != number:
+        sign = "a signed" if kind(-1).value < 0 else "an unsigned"
+        raise ValueError(f"{name} is {number}, which does not fit {sign} whole number of {8 * ctypes.sizeof(kind)} bits")
     return number
-
-
-def _place(name, index):
-    return name if index is None else f"{name}[{index}]"

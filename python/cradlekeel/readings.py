@@ -20,15 +20,22 @@ REASONS = {
     7: "the reading lies beyond the 1600 K end of the blackbody locus",
     9: "the samples, x_bar, y_bar and z_bar must be equally long, from 1 to 471 numbers each",
     10: "a sample is over 16,777,215, or a number of x_bar, y_bar or z_bar is over 4,000,000",
+    11: "there are more than 3,600 records, the most that a file holds",
+    12: "the target is too small for it",
+    13: "the file is too short to be a record file: it has fewer than 8 bytes",
+    14: "the file is no record file, or was cut short: its last 8 bytes do not begin with the record length 18",
+    15: "the file was cut short or is damaged: its length, or the way back in its last 8 bytes, does not fit its count of records",
 }
-"""What each refusal means; 9 and 10 are tested between 1 and 2, the others in the order of their numbers."""
+"""What each refusal means. Of a reading, 9 and 10 are tested between 1 and 2, the others in the order of their numbers. 11 to 15 are
+about record files: writing tests 11 and 12, reading 13, 14, 15, 11 and 12, in this order."""
 
-_KELVIN_PLACES = 103_360_000  # the temperature at a place is this over the place, in kelvin
-_NO_CLASS = 255
+KELVIN_PLACES = 103_360_000  # the temperature at a place is this over the place, in kelvin
+NO_CLASS = 255
 
 
 class Refusal(ValueError):
-    """A reading without an answer; `number` is the refusal's number and `reason` says it in words.
+    """A reading without an answer, or records or a file that are not taken; `number` is the refusal's number and `reason` says it
+    in words.
 
     >>> try:
     ...     read_micro(183000, 276000)
@@ -168,6 +175,6 @@ def _read(name, reading, edges, steps):
     if whole.refusal:
         raise Refusal(whole.refusal)
     return Answer(
-        kelvin=found.kelvin, duv=found.duv, kelvin_range=(_KELVIN_PLACES / whole.high, _KELVIN_PLACES / whole.low),
-        class_index=None if whole.class_index == _NO_CLASS else whole.class_index, steps=whole.steps,
+        kelvin=found.kelvin, duv=found.duv, kelvin_range=(KELVIN_PLACES / whole.high, KELVIN_PLACES / whole.low),
+        class_index=None if whole.class_index == NO_CLASS else whole.class_index, steps=whole.steps,
         place=whole.place, low=whole.low, high=whole.high)

@@ -1,0 +1,175 @@
+"""Record files: readings kept with their answers. docs/FILES.md has the format byte by byte."""
+
+import ctypes
+import operator
+from array import array
+from typing import NamedTuple
+
+from ._library import StoredRecord, WholeAnswer, c_function, u32, whole
+from .readings import NO_CLASS, Refusal
+
+MOST_RECORDS = 3600
+RECORD_BYTES, TRAILER_BYTES = 18, 8
+_FIELDS = StoredRecord._fields_  # the name and the type in C of each
+
+
+class Record(NamedTuple):
+    """A reading and its answer in whole numbers, as a file keeps them; a record may hold any number that fits its field.
+
+    >>> Record(219300, 327100, 23112, 21892, 23866, -2331, 2, 2).duv
+    -2331
+    """
+
+    u: int
+    """CIE 1960 u of the reading in millionths; 32 bits, as v."""
+    v: int
+    place: int
+    """The position on the locus; 16 bits, as low and high, the ends of its range."""
+    low: int
+    high: int
+    duv: int
+    """In millionths; 16 bits, signed."""
+    steps: int
+    """8 bits, as class_index."""
+    class_index: int
+    """255 for no class."""
+
+    @classmethod
+    def of(cls, u, v, answer):
+        """The record of a reading u, v in millionths and its `Answer`.
+
+        >>> from cradlekeel import read_micro
+        >>> Record.of(219300, 327100, read_micro(219300, 327100, steps=2))
+        Record(u=219300, v=327100, place=23112, low=21892, high=23866, duv=-2331, steps=2, class_index=2)
+        """
+        class_index = NO_CLASS if answer.class_index is None else answer.class_index
+        numbers = {"place": answer.place, "low": answer.low, "high": answer.high, "duv": round(answer.duv * 1_000_000),
+                   "steps": answer.steps, "class_index": class_index}
+        kinds = dict(WholeAnswer._fields_)
+        given = {name: whole(f"the answer's {name}", number, kinds[name]) for name, number in numbers.items()}
+        found = c_function("ck_record_of")(u32("u", u), u32("v", v), WholeAnswer(**given))
+        if not found.kept:
+            raise ValueError(f"{answer!r} has a number that does not fit its field of a record")
+        return cls(*_numbers(found.record))
+
+
+def write_records(records, target):
+    """Writes a file of the records to the front of a bytearray and returns how many bytes that were, 18 for each record and 8. The
+    rest of the bytearray keeps what it held, and all of it where the records are refused.
+
+    >>> target = bytearray(b"what it held")
+    >>> write_records([], target)
+    8
+    >>> target
+    bytearray(b'\\x12\\x00\\x00\\x00\\x00\\x00\\x00\\x00held')
+    >>> write_records([Record(219300, 327100, 23112, 21892, 23866, -2331, 2, 2)], target)
+    Traceback (most recent call last):
+        ...
+    cradlekeel.Refusal: refusal 12: the target is too small for it
+    >>> write_records([Record(219300, 327100, 23112, 21892, 23866, -40000, 2, 2)], target)
+    Traceback (most recent call last):
+        ...
+    ValueError: records[0].duv is -40000, which does not fit a signed whole number of 16 bits
+    """
+    if not isinstance(target, bytearray):
+        raise TypeError(f"the target must be a bytearray, not {type(target).__name__}")
+    columns = _columns(list(records))
+    return _count(c_function("ck_write_records")(*columns, (ctypes.c_uint8 * len(target)).from_buffer(target), len(target)))
+
+
+def to_bytes(records):
+    """A file of the records, at most 3,600.
+
+    >>> to_bytes([Record(219300, 327100, 23112, 21892, 23866, -2331, 2, 2)]).hex(" ", -2)
+    'a458 0300 bcfd 0400 485a 8455 3a5d e5f6 0202 1200 0100 1200 0000'
+    """
+    records = list(records)
+    target = bytearray(len(records) * RECORD_BYTES + TRAILER_BYTES)
+    write_records(records, target)
+    return bytes(target)
+
+
+def read_records(file, room=MOST_RECORDS):
+    """The records of a file, which is bytes or any other bytes-like object; refused with 12 where they are more than `room`.
+
+    >>> read_records(bytes.fromhex("a458 0300 bcfd 0400 485a 8455 3a5d e5f6 0202 1200 0100 1200 0000"))
+    [Record(u=219300, v=327100, place=23112, low=21892, high=23866, duv=-2331, steps=2, class_index=2)]
+    >>> read_records(b"u,v,steps\\n")
+    Traceback (most recent call last):
+        ...
+    cradlekeel.Refusal: refusal 14: the file is no record file, or was cut short: its last 8 bytes do not begin with the record length 18
+    """
+    room = min(whole("room", room, ctypes.c_size_t), MOST_RECORDS)  # no file that is read has more
+    columns = [(kind * room)() for _, kind in _FIELDS]
+    count = _count(c_function("ck_read_records")(*_lent(file), *(part for column in columns for part in (column, room))))
+    return list(map(Record._make, zip(*(column[:count] for column in columns))))
+
+
+def check_file(file):
+    """How many records a file has; refused as `read_records` refuses it.
+
+    >>> check_file(to_bytes([]))
+    0
+    >>> check_file(b"")
+    Traceback (most recent call last):
+        ...
+    cradlekeel.Refusal: refusal 13: the file is too short to be a record file: it has fewer than 8 bytes
+    """
+    return _count(c_function("ck_check_file")(*_lent(file)))
+
+
+def record_at(file, index):
+    """The record `index`, counted from 0, of bytes that begin with records, whatever follows them; their form is not checked.
+
+    >>> record_at(bytes(18) + b"cut off", 0)
+    Record(u=0, v=0, place=0, low=0, high=0, duv=0, steps=0, class_index=0)
+    >>> record_at(bytes(18) + b"cut off", 1)
+    Traceback (most recent call last):
+        ...
+    IndexError: the bytes end before record 1 does
+    """
+    lent, length = _lent(file)
+    if not 0 <= operator.index(index) < length // RECORD_BYTES:
+        raise IndexError(f"the bytes end before record {index} does")
+    return Record(*_numbers(c_function("ck_record_at")(lent, length, index)))
+
+
+def _numbers(stored):
+    """The fields of a record that C has returned, in their order."""
+    return (getattr(stored, field) for field, _ in _FIELDS)
+
+
+def _count(done):
+    """How many bytes or records it was; a refusal is raised."""
+    if done.refusal:
+        raise Refusal(done.refusal)
+    return done.count
+
+
+def _lent(file):
+    """Bytes as C takes them, where they stand and how many they are; a copy only where they are not bytes and cannot be lent."""
+    if not isinstance(file, bytes):
+        view = memoryview(file)
+        if view.c_contiguous and not view.readonly:
+            return (ctypes.c_uint8 * view.nbytes).from_buffer(view), view.nbytes
+        file = bytes(view)
+    return file, len(file)
+
+
+def _columns(records):
+    """The fields of all records as C takes them, a column for each with its count."""
+    for i, record in enumerate(records):
+        if not isinstance(record, Record):
+            raise TypeError(f"records[{i}] is {record!r}, which is not a Record")
+    columns = zip(*records) if records else len(_FIELDS) * [()]
+    return [part for (field, kind), numbers in zip(_FIELDS, columns) for part in (_column(field, kind, numbers), len(numbers))]
+
+
+def _column(field, kind, numbers):
+    try:
+        stored = array(kind._type_, numbers)
+    except (OverflowError, TypeError):
+        for i, number in enumerate(numbers):
+            whole(f"records[{i}].{field}", number, kind)  # raises what names the first at fault
+        raise
+    return (kind * len(numbers)).from_buffer(stored)
