@@ -4,9 +4,11 @@ import importlib
 import signal
 import sys
 
-from .commands import ANSWERED, FAILED, NOT_RUN, WriteFailed, WrongUsage, say, show
+from .commands import ANSWERED, FAILED, NOT_RUN, BadFile, Failed, WrongUsage, say, write_out
 
 COMMANDS = {  # a module of cradlekeel.commands for each
+    "save": "the answers to lines, kept in a record file too",
+    "show": "the records of record files, one to a line",
     "spectrum": "the temperature, Duv and class of spectra in a meter's files",
 }
 
@@ -25,7 +27,7 @@ def main(words):
     name = words[0] if words else ""
     try:
         if name in ("-h", "--help"):
-            show(usage())
+            write_out(usage())
             return ANSWERED
         if name not in COMMANDS:
             raise WrongUsage(f"'{name}' is not a command" if words else "no command is named")
@@ -33,10 +35,10 @@ def main(words):
     except WrongUsage as error:
         say(f"{error}; see cradlekeel {name + ' ' if name in COMMANDS else ''}--help")
         return NOT_RUN
-    except WriteFailed as error:
+    except (BadFile, Failed) as error:
         say(error)
         return FAILED
-    except OSError as error:  # the library, or a table of data/, is not there
+    except OSError as error:  # the library, the program or a table of data/ is not there
         say(error)
         return NOT_RUN
 

@@ -12,30 +12,34 @@ class WrongUsage(Exception):
     """Words that a command does not take."""
 
 
-class WriteFailed(Exception):
-    """Standard output cannot be written."""
+class Failed(Exception):
+    """Standard input that cannot be read, or standard output that cannot be written: the command ends here."""
 
 
-def show(text):
-    """Writes to standard output at once; a file name that cannot be decoded keeps its bytes."""
+class BadFile(Exception):
+    """A file that cannot be read or written, or does not hold what it should; the message begins with its name."""
+
+
+def write_out(text):
+    """Writes text or bytes to standard output at once; a file name that cannot be decoded keeps its bytes."""
     try:
-        _write(1, text)
+        write_all(1, os.fsencode(text))
     except OSError as error:
-        raise WriteFailed(f"cannot write standard output: {error.strerror}") from None
+        raise Failed(f"cannot write standard output: {error.strerror}") from None
 
 
 def say(text):
     """Writes a message to standard error; where that cannot be written, nothing is left to tell it to."""
     try:
-        _write(2, f"cradlekeel: {text}\n")
+        write_all(2, os.fsencode(f"cradlekeel: {text}\n"))
     except OSError:
         pass
 
 
-def _write(descriptor, text):
-    rest = os.fsencode(text)
-    while rest:
-        rest = rest[os.write(descriptor, rest):]
+def write_all(descriptor, held):
+    """Writes bytes, however many times the system wants to be asked."""
+    while held:
+        held = held[os.write(descriptor, held):]
 
 
 def options_of(words, names):
@@ -54,15 +58,30 @@ def whole_number(option, text):
     return int(text)
 
 
+def each_file(names, work):
+    """Does the work for each file and returns the exit status; a file that is at fault is told of, and the others are still done."""
+    status = ANSWERED
+    for name in names:
+        try:
+            work(name)
+        except BadFile as error:
+            say(error)
+            status = FAILED
+    return status
+
+
 def bytes_of(name):
     """All that a file holds, `-` being standard input; a read that fails is an error, so that no file is taken to end early."""
-    if name == "-":
-        return _read_all(0)
-    descriptor = os.open(name, os.O_RDONLY)
     try:
-        return _read_all(descriptor)
-    finally:
-        os.close(descriptor)
+        if name == "-":
+            return _read_all(0)
+        descriptor = os.open(name, os.O_RDONLY)
+        try:
+            return _read_all(descriptor)
+        finally:
+            os.close(descriptor)
+    except OSError as error:
+        raise BadFile(f"{name}: {error.strerror}") from None
 
 
 def _read_all(descriptor):

@@ -36,16 +36,12 @@ from decimal import Decimal
 from typing import NamedTuple
 
 from .. import EDGES, STEPS, BadSpectrum, BelowZero, Refusal, read_micro, read_spectrum
-from . import ANSWERED, FAILED, WrongUsage, bytes_of, options_of, say, show, whole_number
+from . import ANSWERED, BadFile, WrongUsage, bytes_of, each_file, options_of, say, whole_number, write_out
 
 NUMBER = re.compile(r"[+-]?(?:[0-9]+\.?[0-9]*|\.[0-9]+)(?:[eE][+-]?[0-9]{1,3})?")
 LONGEST_NUMBER = 100  # characters
 LEAST_FIRST, LEAST_LAST, LARGEST_STEP = 400, 700, 20  # in nm: less of the spectrum, or a coarser step, is warned of
 BAD_EDGES = 1  # the number of the refusal that is about the options and not about a file
-
-
-class BadFile(Exception):
-    """A file that is no spectrum; the message begins with its name."""
 
 
 class Row(NamedTuple):
@@ -58,23 +54,21 @@ def run(words):
     """Answers each file that the words name."""
     options, names = options_of(words, ["steps=", "edges=", "clip"])
     if "--help" in options:
-        show(__doc__)
+        write_out(__doc__)
         return ANSWERED
     if not names:
         raise WrongUsage("no file is named")
     steps = whole_number("--steps", options["--steps"]) if "--steps" in options else STEPS
     edges = [whole_number("--edges", edge.strip()) for edge in options["--edges"].split(",")] if "--edges" in options else EDGES
     check_edges(edges)
-    status = ANSWERED
-    for name in names:
-        try:
-            rows = rows_of(name)
-            show(f"{name}: {answer(name, rows, edges, steps, '--clip' in options)}\n")
-            warn_of_gaps(name, rows)
-        except BadFile as error:
-            say(error)
-            status = FAILED
-    return status
+    return each_file(names, lambda name: answer_file(name, edges, steps, "--clip" in options))
+
+
+def answer_file(name, edges, steps, clip):
+    """Prints the answer to a file, and says where it has too little of the visible light."""
+    rows = rows_of(name)
+    write_out(f"{name}: {answer(name, rows, edges, steps, clip)}\n")
+    warn_of_gaps(name, rows)
 
 
 def check_edges(edges):
@@ -125,10 +119,7 @@ def rows_of(name):
 
 def text_of(name):
     """The text of a file in UTF-8, or in UTF-16 where its first bytes say so."""
-    try:
-        held = bytes_of(name)
-    except OSError as error:
-        raise BadFile(f"{name}: {error.strerror}") from None
+    held = bytes_of(name)
     wide = held.startswith((codecs.BOM_UTF16_LE, codecs.BOM_UTF16_BE))
     return held.decode("utf-16" if wide else "utf-8-sig", "replace")
 

@@ -1,0 +1,143 @@
+"""usage: cradlekeel save [--replace] FILE < LINES
+
+Prints what cradlekeel < LINES prints, line by line as it comes, and keeps every accepted answer with u and v of its line in FILE, a
+record file, in the order of the lines. Refused and unreadable lines are printed and not kept. cradlekeel --help tells of lines
+and answers, cradlekeel show prints a record file, and docs/FILES.md has its format.
+
+  --replace     write FILE even if it exists; without it, such a file is left alone and nothing is read
+  -h, --help    this text
+
+Examples:
+  cradlekeel save monday.rec < lines.txt
+  cradlekeel save --replace monday.rec < lines.txt > answers.txt
+
+FILE is written once all lines are answered: whole or not at all, by a temporary file .cradlekeel-.. in the same folder. It holds
+at most 3600 records; with more, refusal 11 is said and nothing is kept. Without an accepted line it holds no record. It says
+nothing where all went well; cradlekeel show FILE | wc -l counts what was kept. With --replace a link is followed, the file keeps
+its mode, and a file that may not be written, or is no regular file, is left alone.
+
+The first run of bin/cradlekeel save proves and builds the program and the library (a few minutes); later ones start at once.
+
+Exit status: 0 every line is answered and FILE is written; 1 standard input could not be read, standard output or FILE not be
+written, FILE exists, or there were too many answers; 2 wrong usage, or the program or the library is missing. FILE is as it was
+unless the status is 0. So it is too where answers could not be printed or a reader went away, as `head` does (141): what nobody was
+shown is not kept.
+"""
+
+import os
+import signal
+import subprocess
+from collections import deque
+from threading import Thread
+
+from .. import Record, Refusal, to_bytes
+from .._library import ROOT
+from ..readings import NO_CLASS
+from ..records import MOST_RECORDS
+from . import ANSWERED, BadFile, Failed, WrongUsage, options_of, write_out
+from ._whole_file import check_place, write_whole
+
+PROGRAM = ROOT / "target/cradlekeel"
+BLOCK = 1 << 16  # bytes that are read at once; what a line has beyond so many is dropped, since no line over 32 bytes can be read
+ACCEPTED = b"0 "
+
+
+def run(words):
+    """Answers standard input and keeps what was accepted in the file that the words name."""
+    options, names = options_of(words, ["replace"])
+    if "--help" in options:
+        write_out(__doc__)
+        return ANSWERED
+    if len(names) != 1:
+        raise WrongUsage("more than one file is named" if names else "no file is named")
+    (name,), replace = names, "--replace" in options
+    if name in ("", "-"):
+        raise WrongUsage(f"'{name}' is not the name of a file: standard output has the answers")
+    to_bytes([])  # a library that is missing is told before anything is read
+    check_place(name, replace)
+    write_whole(name, file_of(name, kept_answers()), replace)
+    return ANSWERED
+
+
+def file_of(name, kept):
+    try:
+        return to_bytes(kept.records)
+    except Refusal as refusal:
+        raise BadFile(f"{name}: {refusal}; {kept.accepted} answers were accepted, and nothing is kept") from None
+
+
+class Kept:
+    """How many lines were accepted, and their records, up to one more than a file holds, which is enough to be refused."""
+
+    def __init__(self):
+        self.accepted, self.records = 0, []
+
+    def take(self, line, answer):
+        """Keeps a line whose answer is `0 place low high duv steps class`."""
+        if not answer.startswith(ACCEPTED):
+            return
+        self.accepted += 1
+        if self.accepted <= MOST_RECORDS + 1:
+            u, v = line.split()[:2]
+            *numbers, class_index = answer.removeprefix(ACCEPTED).split()
+            self.records.append(Record(int(u), int(v), *map(int, numbers), NO_CLASS if class_index == b"-" else int(class_index)))
+
+
+class Feeder(Thread):
+    """Hands standard input to the program and keeps the lines that are not answered yet."""
+
+    def __init__(self, pipe):
+        super().__init__(daemon=True)
+        self.pipe, self.lines, self.fault, self.ended = pipe, deque(), None, False
+
+    def run(self):
+        signal.pthread_sigmask(signal.SIG_BLOCK, {signal.SIGPIPE})  # a program that is gone is an error here
+        try:
+            for block in whole_lines():
+                self.lines.extend(block.removesuffix(b"\n").split(b"\n"))
+                while block:
+                    block = block[self.pipe.write(block):]
+        except (BrokenPipeError, ValueError):  # the program is gone, or its pipe is closed, as `ended` tells
+            return
+        except OSError as error:
+            self.fault = error
+        self.ended = True
+        self.pipe.close()
+
+
+def whole_lines():
+    """Standard input in blocks of whole lines as they come, and the last line without its newline: a line whose end cannot be read is
+    left out."""
+    rest = b""
+    while block := os.read(0, BLOCK):
+        lines, newline, rest = (rest[:BLOCK] + block).rpartition(b"\n")
+        if newline:
+            yield lines + newline
+    if rest:
+        yield rest
+
+
+def kept_answers():
+    """Has the program answer standard input, prints what it prints and keeps what it accepts."""
+    if not PROGRAM.is_file():
+        raise OSError(f"the program is not built: there is no {PROGRAM}; bin/cradlekeel save builds it")
+    kept, rest = Kept(), b""
+    pipes = {"stdin": subprocess.PIPE, "stdout": subprocess.PIPE, "stderr": subprocess.PIPE, "bufsize": 0}
+    with subprocess.Popen([PROGRAM], **pipes) as process:
+        feeder = Feeder(process.stdin)
+        feeder.start()
+        try:
+            while printed := process.stdout.read(BLOCK):
+                write_out(printed)
+                *answers, rest = (rest + printed).split(b"\n")
+                for answer in answers:
+                    kept.take(feeder.lines.popleft(), answer)
+        except BaseException:
+            process.kill()
+            raise
+        said = process.stderr.read()
+    if feeder.fault:
+        raise Failed(f"cannot read standard input: {feeder.fault.strerror}")
+    if process.returncode or said or rest or feeder.lines or not feeder.ended:
+        raise Failed(f"the program has not answered every line; its exit status is {process.returncode} {said.decode()}".rstrip())
+    return kept

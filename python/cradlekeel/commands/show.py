@@ -1,0 +1,63 @@
+"""usage: cradlekeel show [--kelvin] FILE..
+
+Prints the records of record files, as cradlekeel save keeps them, one to a line and file after file:
+
+  u v place low high duv steps class
+
+u, v and duv are in units of 0.000001. place, low and high are positions on the blackbody locus, and the temperature at a
+place is 103360000 / place kelvin. A class of - is none. A FILE of - is standard input. docs/FILES.md has the format.
+
+  --kelvin      the temperature at the place too, as a ninth column, in kelvin with one decimal; - where the place is 0
+  -h, --help    this text
+
+Examples:
+  cradlekeel show --kelvin monday.rec
+  cradlekeel show *.rec | wc -l                  (how many records)
+  cradlekeel show monday.rec | cut -d' ' -f1-2 | cradlekeel      (the readings, answered again at 14 steps)
+
+Only the form of a file is checked: what its records say is printed as it is. A file that cannot be read is named on standard
+error with the number of its refusal and the reason, and the others are still shown:
+
+  refusal 13: the file is shorter than 8 bytes, 14: it does not tell at its end that a record has 18 bytes,
+  15: its length does not fit its count of records, 11: it has more than 3600 records
+
+The first run of bin/cradlekeel show proves and builds the library (make lib, one to two minutes); later ones start at once.
+
+Exit status: 0 every file is shown; 1 a file could not be read, or standard output not be written; 2 wrong usage, or the
+library is missing.
+"""
+
+from .. import Refusal, read_records
+from ..readings import KELVIN_PLACES, NO_CLASS
+from . import ANSWERED, BadFile, WrongUsage, bytes_of, each_file, options_of, write_out
+
+
+def run(words):
+    """Shows each file that the words name."""
+    options, names = options_of(words, ["kelvin"])
+    if "--help" in options:
+        write_out(__doc__)
+        return ANSWERED
+    if not names:
+        raise WrongUsage("no file is named")
+    worded = with_kelvin if "--kelvin" in options else line_of
+    return each_file(names, lambda name: write_out("".join(f"{worded(record)}\n" for record in records_of(name))))
+
+
+def records_of(name):
+    """The records of a file."""
+    held = bytes_of(name)
+    try:
+        return read_records(held)
+    except Refusal as refusal:
+        raise BadFile(f"{name}: {refusal}") from None
+
+
+def line_of(record):
+    *numbers, class_index = record
+    return " ".join(map(str, (*numbers, "-" if class_index == NO_CLASS else class_index)))
+
+
+def with_kelvin(record):
+    kelvin = f"{KELVIN_PLACES / record.place:.1f}" if record.place else "-"  # a file may hold any number
+    return f"{line_of(record)} {kelvin}"
