@@ -1,8 +1,9 @@
-"""Runs the answer vectors of tests/make_vectors.py through python/cradlekeel, that package's own examples, and examples/.
+"""Runs the vectors of answers and of record files of tests/make_vectors.py through python/cradlekeel, that package's own examples, and
+examples/.
 
     python3 tests/abi_test.py               (tests/run-abi calls it, with the programs of examples/ compiled to target/abi/)
-    python3 tests/abi_test.py --self-test   what needs no library: that its absence is said, how spectra are scaled, what is
-                                            expected of the lamps, and what the documents show of examples/
+    python3 tests/abi_test.py --self-test   what needs no library: that its absence is said, how spectra are scaled, which records do
+                                            not fit, what is expected of the lamps, and what the documents show
 """
 
 import _ctypes
@@ -27,6 +28,7 @@ sys.path.insert(0, str(ROOT / "python"))
 import cradlekeel
 import cradlekeel._library
 import readme_commands
+import record_test
 import reference
 import spectrum_test
 import vectors
@@ -201,14 +203,15 @@ def self_test():
     check_missing_library()
     for statuses in ({lamp_line(lamp)[1] for lamp in LAMPS}, {blackbody_line(kelvin)[1] for kelvin in BLACKBODIES}):
         assert statuses == {0, 1}, "the lamps, and the blackbodies, should have both answers and refusals"
+    record_test.self_test()
     scaled, blocks, commands = spectrum_test.self_test(), check_documents(), readme_commands.self_test()
     print(f"abi_test.py: {len(LAMPS)} lamps and {len(BLACKBODIES)} blackbodies computed, {scaled} spectra scaled; {blocks} blocks and "
-          f"{commands} commands of README.md read")
+          f"{commands} commands of the pages read")
 
 
 def run_doctests():
     """The failures among the examples of the package's own documentation, and how many examples there are."""
-    ran = [doctest.testmod(module) for module in (cradlekeel, cradlekeel.readings, cradlekeel.spectra)]
+    ran = [doctest.testmod(module) for module in (cradlekeel, cradlekeel.readings, cradlekeel.records, cradlekeel.spectra)]
     return sum(each.failed for each in ran), sum(each.attempted for each in ran)
 
 
@@ -219,14 +222,14 @@ def main():
         sys.exit(__doc__)
     count = run_vectors()
     check_whole_numbers()
-    spectra = spectrum_test.run()
+    spectra, files = spectrum_test.run(), record_test.run()
     check_lamps()
     check_blackbodies()
     blocks, commands = check_documents(), readme_commands.run(with_library=True)
     failed, attempted = run_doctests()
-    print(f"abi_test.py: {count} vectors, each by the C function and by the Python one; {spectra} spectra; {attempted} examples, "
-          f"{failed} failures; {len(LAMPS)} lamps by each of two programs and {len(BLACKBODIES)} blackbodies; {blocks} blocks and "
-          f"{commands} commands of README.md")
+    print(f"abi_test.py: {count} vectors of answers and {files} of record files, each by the C function and by the Python one; {spectra} "
+          f"spectra; {attempted} examples, {failed} failures; {len(LAMPS)} lamps by each of two programs and {len(BLACKBODIES)} blackbodies; "
+          f"{blocks} blocks and {commands} commands of the pages")
     sys.exit(failed != 0)
 
 

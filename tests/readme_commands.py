@@ -1,4 +1,4 @@
-"""The commands that README.md shows with `$ ` in its indented blocks, run again: each must print the lines shown under it.
+"""The commands that README.md and docs/FILES.md show with `$ ` in their indented blocks, run again: each must print the lines under it.
 
 A command goes on over further lines while bash finds it incomplete. One with no lines under it is only run, and must succeed.
 tests/run-abi runs those that need the C library, tests/run-program all others, so that every command runs in one of the two."""
@@ -12,9 +12,11 @@ from typing import NamedTuple
 ROOT = Path(__file__).resolve().parent.parent
 FENCE = re.compile(r"^ *```.*?^ *```[^\n]*$", re.MULTILINE | re.DOTALL)
 INDENT, PROMPT = "    ", "$ "
-NEEDS_LIBRARY = re.compile(r"\b(?:gcc|g\+\+|python3|target/lib|target/lamp|target/samples|cradlekeel spectrum)(?![\w-])")
+NEEDS_LIBRARY = re.compile(
+    r"\b(?:gcc|g\+\+|python3|target/lib|target/lamp|target/samples|target/\w+\.rec|cradlekeel (?:save|show|spectrum))(?![\w-])")
 LEFT_OUT = ("make lib", ".ci/run")  # tests/run-abi and the gate run these themselves
-FEWEST = 3
+PAGES = ("README.md", "docs/FILES.md")
+FEWEST = 3  # on each page
 PATIENCE = 120  # seconds that one command may take
 
 
@@ -53,7 +55,7 @@ def commands_of(block):
         text, at = block[start][len(PROMPT):].rstrip(), start + 1
         while at < end and is_incomplete(text):
             text, at = text + "\n" + block[at].rstrip(), at + 1
-        assert not is_incomplete(text), "README.md shows a command that does not end: " + text
+        assert not is_incomplete(text), "a command does not end: " + text
         yield Command(text, tuple("\n".join(block[at:end]).rstrip().splitlines()))
 
 
@@ -63,30 +65,35 @@ def commands(text):
     return [command for command in found if not command.text.startswith(LEFT_OUT)]
 
 
-def readme_commands():
-    found = commands((ROOT / "README.md").read_text(encoding="utf-8"))
-    assert len(found) >= FEWEST, f"README.md shows {len(found)} commands; {FEWEST} is the fewest"
+def page_commands(page):
+    found = commands((ROOT / page).read_text(encoding="utf-8"))
+    assert len(found) >= FEWEST, f"{page} shows {len(found)} commands; {FEWEST} is the fewest"
     return found
 
 
+def all_commands():
+    """Every command of every page, in its order."""
+    return [command for page in PAGES for command in page_commands(page)]
+
+
 def fault(command):
-    """What a command does otherwise than README.md shows; None where nothing."""
+    """What a command does otherwise than its page shows; None where nothing."""
     ran = subprocess.run(["bash", "-c", command.text], cwd=ROOT, stdin=subprocess.DEVNULL, stdout=subprocess.PIPE,
                          stderr=subprocess.STDOUT, text=True, timeout=PATIENCE)
     if not command.shown:
         return f"{command.text}\nended with status {ran.returncode}: {ran.stdout}" if ran.returncode else None
     if tuple(ran.stdout.splitlines()) == command.shown:
         return None
-    return "\n".join((command.text, "README.md shows:", *command.shown, "it printed:", ran.stdout))
+    return "\n".join((command.text, "the page shows:", *command.shown, "it printed:", ran.stdout))
 
 
 def run(with_library):
     """Runs the commands that need the library, or those that do not, and counts them."""
-    chosen = [command for command in readme_commands() if command.needs_library == with_library]
-    assert chosen, "README.md shows no command " + ("that needs the library" if with_library else "for the program alone")
+    chosen = [command for command in all_commands() if command.needs_library == with_library]
+    assert chosen, "the pages show no command " + ("that needs the library" if with_library else "for the program alone")
     for command in chosen:
         found = fault(command)
-        assert found is None, "a command of README.md: " + found
+        assert found is None, "a command of a page: " + found
     return len(chosen)
 
 
@@ -114,19 +121,21 @@ A sentence with `$ false`, and a block.
 ```
     $ gcc --version && target/lamp
     $ bin/cradlekeel spectrum lamp.csv
+    $ printf '1 2\\n' | bin/cradlekeel save day.rec
+    $ od target/day.rec
 """
 
 
 def self_test():
     """The sample is read as it should be, and a wrong output, a wrong status and a command without an end are found."""
     found = commands(SAMPLE)
-    assert [len(command.shown) for command in found] == [2, 0, 3, 0, 0], found
-    assert [command.needs_library for command in found] == [False, False, False, True, True], found
+    assert [len(command.shown) for command in found] == [2, 0, 3, 0, 0, 0, 0], found
+    assert [command.needs_library for command in found] == [False, False, False, True, True, True, True], found
     assert [fault(command) for command in found[:3]] == [None, None, None], found
     assert fault(found[0]._replace(shown=("c",))) and fault(found[2]._replace(text="echo d"))
     assert fault(Command("false", ()))
     try:
         commands("    $ echo 'no end\n")
     except AssertionError:
-        return len(readme_commands())
+        return len(all_commands())
     raise AssertionError("a command without an end goes unnoticed")

@@ -1,4 +1,5 @@
-/* Runs the answer vectors of tests/make_vectors.py through the six C functions, and the cases that only C can make.
+/* Runs the answer vectors of tests/make_vectors.py through the six C functions that answer a reading, and each answer through
+ * ck_record_of; and the cases that only C can make.
  *
  *     abi_test crates/vectors/stdin crates/vectors/stdout
  *
@@ -6,33 +7,20 @@
  * it, or a read past its end, ends the test. Compiles as C11 and as C++11. */
 #define _GNU_SOURCE 1
 #include "../../include/cradlekeel.h"
+#include "guarded.h"
 
 #include <inttypes.h>
-#include <stdio.h>
-#include <stdlib.h>
-#include <string.h>
-#include <sys/mman.h>
-#include <unistd.h>
 
-#ifdef __cplusplus
-#define SAME_LAYOUT(condition) static_assert(condition, #condition)
-#else
-#define SAME_LAYOUT(condition) _Static_assert(condition, #condition)
-#endif
 SAME_LAYOUT(sizeof(ck_whole) == 20);
 SAME_LAYOUT(sizeof(ck_answer) == 40);
 SAME_LAYOUT(offsetof(ck_answer, whole) == 16);
 SAME_LAYOUT(offsetof(ck_whole, duv) == 12);
 SAME_LAYOUT(offsetof(ck_whole, class_index) == 18);
+SAME_LAYOUT(sizeof(ck_kept) == 24);
+SAME_LAYOUT(offsetof(ck_kept, kept) == 20);
 
 enum { SAMPLES, X_BAR, Y_BAR, Z_BAR, EDGES, LISTS };
-enum { MOST_NUMBERS = 1024, LONGEST_LINE = 8194 };
-
-static long failures;
-
-static void fail(const char *what, const char *line) {
-    if (failures++ < 10) fprintf(stderr, "FAILED: %s: %s\n", what, line);
-}
+enum { MOST_NUMBERS = 1024 };
 
 /* --- Lists that can be read and nothing else ----------------------------------------------------------------------- */
 
@@ -41,23 +29,14 @@ typedef struct list {
     size_t count;
 } list;
 
-static char *pages; /* two for each list: its own and one that cannot be read */
-static size_t page_size;
+static region regions[LISTS];
 
-static void make_pages(void) {
-    page_size = (size_t)sysconf(_SC_PAGESIZE);
-    void *made = mmap(NULL, 2 * LISTS * page_size, PROT_NONE, MAP_PRIVATE | MAP_ANONYMOUS, -1, 0);
-    if (made == MAP_FAILED || page_size < MOST_NUMBERS * sizeof(uint32_t)) exit(2);
-    pages = (char *)made;
+static void make_regions(void) {
+    for (int which = 0; which < LISTS; which++) regions[which] = make_region(MOST_NUMBERS * sizeof(uint32_t));
 }
 
-/* The numbers, copied so that the last one ends where nothing can be read. */
 static list lend(int which, const uint32_t *numbers, size_t count) {
-    char *page = pages + 2 * (size_t)which * page_size, *at = page + page_size - count * sizeof *numbers;
-    if (mprotect(page, page_size, PROT_READ | PROT_WRITE) != 0) exit(2);
-    memcpy(at, numbers, count * sizeof *numbers);
-    if (mprotect(page, page_size, PROT_READ) != 0) exit(2);
-    list copied = {(const uint32_t *)(const void *)at, count};
+    list copied = {(const uint32_t *)lend_bytes(&regions[which], numbers, count * sizeof *numbers), count};
     return copied;
 }
 
@@ -93,20 +72,11 @@ static uint32_t next_number(int base) {
     return (uint32_t)strtoul(word ? word : "", NULL, base);
 }
 
-/* Adds the numbers of a word, `N` or `NxK` for K times N, and gives how many there are now. */
-static size_t add_numbers(uint32_t *numbers, size_t count, const char *word) {
-    char *end;
-    uint32_t number = (uint32_t)strtoul(word, &end, 10);
-    size_t times = *end == 'x' ? strtoul(end + 1, NULL, 10) : 1;
-    for (size_t i = 0; i < times && count < MOST_NUMBERS; i++) numbers[count++] = number;
-    return count;
-}
-
 /* The numbers up to the end of the line. */
 static list next_list(int which) {
     static uint32_t numbers[MOST_NUMBERS];
     size_t count = 0;
-    for (const char *word; (word = strtok(NULL, " \n"));) count = add_numbers(numbers, count, word);
+    for (const char *word; (word = strtok(NULL, " \n"));) count = add_numbers(numbers, count, MOST_NUMBERS, word);
     return lend(which, numbers, count);
 }
 
@@ -155,23 +125,36 @@ static void show(char *to, size_t size, ck_answer a) {
              w->low, w->high, w->duv, w->steps, w->class_index, bits_of(a.kelvin), bits_of(a.duv));
 }
 
+/* The record of an answer, with any two numbers for u and v: its fields, and zeros where it is not kept. */
+static void check_record(uint32_t u, uint32_t v, ck_whole w, int is_kept, const char *line) {
+    ck_kept k = ck_record_of(u, v, w);
+    const ck_record *r = &k.record;
+    if (!is_kept) u = v = 0, memset(&w, 0, sizeof w);
+    if (k.kept != is_kept || r->u != u || r->v != v || r->place != w.place || r->low != w.low || r->high != w.high || r->duv != w.duv ||
+        r->steps != w.steps || r->class_index != w.class_index)
+        fail("ck_record_of", line);
+}
+
+static void run_vector(call *c, const char *expected, const char *line) {
+    static char shown[LONGEST_LINE];
+    read_call(c);
+    ck_answer a = run(c);
+    show(shown, sizeof shown, a);
+    if (strcmp(shown, expected) != 0) fail(shown, line);
+    check_record(c->numbers[0], c->numbers[1], a.whole, a.whole.refusal == CK_ACCEPTED, line);
+}
+
 static long run_vectors(const char *calls_path, const char *answers_path) {
-    static char line[LONGEST_LINE], kept[LONGEST_LINE], expected[LONGEST_LINE], shown[LONGEST_LINE];
+    static char line[LONGEST_LINE], kept[LONGEST_LINE], expected[LONGEST_LINE];
     static call c;
     long count = 0;
-    FILE *calls = fopen(calls_path, "r"), *answers = fopen(answers_path, "r");
-    if (!calls || !answers) {
-        fprintf(stderr, "cannot read %s and %s\n", calls_path, answers_path);
-        exit(2);
-    }
-    while (fgets(line, sizeof line, calls) && fgets(expected, sizeof expected, answers)) {
+    FILE *calls = open_lines(calls_path), *answers = open_lines(answers_path);
+    while (next_line(line, calls) && next_line(expected, answers)) {
         memcpy(kept, line, sizeof kept);
         const char *word = strtok(line, " \n");
         if (word && strcmp(word, "list") == 0) hold_list(&c, expected, kept);
         if (!word || strcmp(word, "answer") != 0) continue;
-        read_call(&c);
-        show(shown, sizeof shown, run(&c));
-        if (strcmp(shown, expected) != 0) fail(shown, kept);
+        run_vector(&c, expected, kept);
         count++;
     }
     fclose(calls);
@@ -309,12 +292,32 @@ static void listing(void) {
     expect_refused(ck_read_micro(346000, 360540, edges, GOOD_COUNT, 14), CK_TOO_COOL, "346000 360540");
 }
 
+/* Answers that this library never gives: numbers at the limits of their fields and beyond them, and refusals with other numbers. */
+static void records_of_any_answer(void) {
+    ck_whole largest = {65535, 65535, 65535, 32767, CK_ACCEPTED, 255, 255};
+    check_record(UINT32_MAX, 0, largest, 1, "every field the largest");
+    largest.duv = -32768;
+    check_record(0, UINT32_MAX, largest, 1, "duv the least");
+    for (int which = 0; which < 9; which++) {
+        ck_whole other = largest;
+        uint32_t *const places[] = {&other.place, &other.low, &other.high};
+        if (which < 6) *places[which % 3] = which < 3 ? 65536 : UINT32_MAX;
+        if (which >= 6) other.duv = which == 6 ? 32768 : which == 7 ? -32769 : INT32_MIN;
+        check_record(1, 2, other, 0, "a number beyond its field");
+    }
+    for (int refusal = 1; refusal < 256; refusal++) {
+        ck_whole refused = largest;
+        refused.refusal = (uint8_t)refusal;
+        check_record(1, 2, refused, 0, "a refusal");
+    }
+}
+
 int main(int argc, char **argv) {
     if (argc != 3) {
         fprintf(stderr, "abi_test CALLS ANSWERS\n");
         return 2;
     }
-    make_pages();
+    make_regions();
     no_edges_at_all();
     not_finite();
     samples_without_a_list();
@@ -322,6 +325,7 @@ int main(int argc, char **argv) {
     samples_at_their_limits();
     samples_that_are_their_tables();
     listing();
+    records_of_any_answer();
     long count = run_vectors(argv[1], argv[2]);
     if (count == 0) fail("no answer vectors", argv[1]);
     printf("abi_test: %ld vectors, %ld failures\n", count, failures);

@@ -1,0 +1,279 @@
+/* Runs the vectors of record files of tests/make_vectors.py through the C functions on record files, and the cases that only C can make.
+ *
+ *     record_test crates/vectors/stdin crates/vectors/stdout
+ *
+ * What is lent can be read and not written, and ends before a page that cannot be touched, so that a write to it, or a read past
+ * its end, ends the test. A target ends before such a page too, and what stands before it is looked at again after the call.
+ * Compiles as C11 and as C++11. */
+#define _GNU_SOURCE 1
+#include "../../include/cradlekeel.h"
+#include "guarded.h"
+
+#include <inttypes.h>
+
+SAME_LAYOUT(sizeof(ck_record) == 20);
+SAME_LAYOUT(offsetof(ck_record, place) == 8);
+SAME_LAYOUT(offsetof(ck_record, duv) == 14);
+SAME_LAYOUT(offsetof(ck_record, class_index) == 17);
+SAME_LAYOUT(sizeof(ck_done) == 16);
+SAME_LAYOUT(offsetof(ck_done, refusal) == 8);
+
+enum { U, V, PLACE, LOW, HIGH, DUV, STEPS, CLASS, COLUMNS };
+static const char LETTERS[] = "uvplhdsc";
+static const size_t WIDTHS[COLUMNS] = {4, 4, 2, 2, 2, 2, 1, 1}; /* in bytes */
+
+/* The most that a line of the vectors asks for. */
+enum { MOST_NUMBERS = 69136, MOST_BYTES = 1179648, MOST_WRITTEN = 65536, MOST_READ = 4096 };
+
+/* --- Numbers of each width ----------------------------------------------------------------------------------------- */
+
+static void put_number(void *at, size_t width, size_t i, uint32_t number) {
+    if (width == 4) ((uint32_t *)at)[i] = number;
+    else if (width == 2) ((uint16_t *)at)[i] = (uint16_t)number;
+    else ((uint8_t *)at)[i] = (uint8_t)number;
+}
+
+static uint32_t get_number(const void *at, size_t width, size_t i) {
+    if (width == 4) return ((const uint32_t *)at)[i];
+    if (width == 2) return ((const uint16_t *)at)[i];
+    return ((const uint8_t *)at)[i];
+}
+
+static uint32_t checksum(const void *at, size_t width, size_t count) {
+    uint64_t sum = 0;
+    for (size_t i = 0; i < count; i++) sum = (sum * 1000003 + get_number(at, width, i)) % 4294967291u;
+    return (uint32_t)sum;
+}
+
+/* --- What is lent, and targets ------------------------------------------------------------------------------------- */
+
+/* The columns and the file that are held from line to line. */
+typedef struct held {
+    const void *columns[COLUMNS];
+    size_t counts[COLUMNS];
+    const uint8_t *file;
+    size_t length;
+} held;
+
+static region column_regions[COLUMNS], file_region, target_regions[COLUMNS], target_file_region;
+
+static void make_regions(void) {
+    for (int k = 0; k < COLUMNS; k++) {
+        column_regions[k] = make_region(MOST_NUMBERS * WIDTHS[k]);
+        target_regions[k] = make_region(MOST_READ * WIDTHS[k]);
+    }
+    file_region = make_region(MOST_BYTES);
+    target_file_region = make_region(MOST_WRITTEN);
+}
+
+enum { BEFORE = 0xa5 }; /* every byte before a target */
+
+/* A target that holds the pattern. */
+static void *target(const region *r, size_t width, size_t count) {
+    char *at = last_bytes(r, count * width);
+    protect(r, PROT_READ | PROT_WRITE);
+    memset(r->start, BEFORE, (size_t)(at - r->start));
+    for (size_t i = 0; i < count; i++) put_number(at, width, i, (uint32_t)(7 * i + 3));
+    return at;
+}
+
+static void check_before(const region *r, const void *target, const char *line) {
+    for (const char *at = r->start; at < (const char *)target; at++)
+        if ((uint8_t)*at != BEFORE) {
+            fail("written before a target", line);
+            return;
+        }
+}
+
+static ck_done write_held(const held *h, uint8_t *to, size_t room) {
+    const void *const *c = h->columns;
+    const size_t *n = h->counts;
+    return ck_write_records((const uint32_t *)c[U], n[U], (const uint32_t *)c[V], n[V], (const uint16_t *)c[PLACE], n[PLACE],
+                            (const uint16_t *)c[LOW], n[LOW], (const uint16_t *)c[HIGH], n[HIGH], (const int16_t *)c[DUV], n[DUV],
+                            (const uint8_t *)c[STEPS], n[STEPS], (const uint8_t *)c[CLASS], n[CLASS], to, room);
+}
+
+static ck_done read_into(const uint8_t *file, size_t length, void *const c[COLUMNS], const size_t n[COLUMNS]) {
+    return ck_read_records(file, length, (uint32_t *)c[U], n[U], (uint32_t *)c[V], n[V], (uint16_t *)c[PLACE], n[PLACE],
+                           (uint16_t *)c[LOW], n[LOW], (uint16_t *)c[HIGH], n[HIGH], (int16_t *)c[DUV], n[DUV], (uint8_t *)c[STEPS],
+                           n[STEPS], (uint8_t *)c[CLASS], n[CLASS]);
+}
+
+/* --- The vectors: each line's answer as tests/record_lines.py writes what it expects ------------------------------- */
+
+static const char *next_word(void) { return strtok(NULL, " \n"); }
+
+static size_t next_size(void) {
+    const char *word = next_word();
+    return strtoull(word ? word : "", NULL, 10);
+}
+
+static void hold_column(held *h, char *shown, const char *line) {
+    static uint32_t numbers[MOST_NUMBERS], stored[MOST_NUMBERS];
+    const char *letter = next_word(), *found = letter ? strchr(LETTERS, *letter) : NULL;
+    if (!found) {
+        fail("no such column", line);
+        return;
+    }
+    size_t k = (size_t)(found - LETTERS), count = 0;
+    for (const char *word; (word = next_word());) count = add_numbers(numbers, count, MOST_NUMBERS, word);
+    for (size_t i = 0; i < count; i++) put_number(stored, WIDTHS[k], i, numbers[i]);
+    h->columns[k] = lend_bytes(&column_regions[k], stored, count * WIDTHS[k]);
+    h->counts[k] = count;
+    sprintf(shown, "%zu\n", count);
+}
+
+static void hold_bytes(held *h, const uint8_t *bytes, size_t count) {
+    h->file = (const uint8_t *)lend_bytes(&file_region, bytes, count);
+    h->length = count;
+}
+
+/* A byte of two hexadecimal digits. */
+static uint8_t byte_of(const char *digits) {
+    char both[3] = {digits[0], digits[1], '\0'};
+    return (uint8_t)strtoul(both, NULL, 16);
+}
+
+/* Words of bytes, and `HHxK` for K times a byte. */
+static void hold_file(held *h, char *shown) {
+    static uint8_t bytes[MOST_BYTES];
+    size_t count = 0;
+    for (const char *word; (word = next_word());) {
+        size_t times = strchr(word, 'x') ? strtoul(strchr(word, 'x') + 1, NULL, 10) : 0;
+        if (times > MOST_BYTES - count || strlen(word) / 2 > MOST_BYTES - count) exit(2);
+        if (times) memset(bytes + count, byte_of(word), times), count += times;
+        for (; !times && *word; word += 2) bytes[count++] = byte_of(word);
+    }
+    hold_bytes(h, bytes, count);
+    sprintf(shown, "%zu\n", count);
+}
+
+static void write_line(held *h, char *shown, const char *line) {
+    size_t room = next_size();
+    uint8_t *to = (uint8_t *)target(&target_file_region, 1, room);
+    ck_done done = write_held(h, to, room);
+    check_before(&target_file_region, to, line);
+    sprintf(shown, "%u %zu %" PRIu32 "\n", done.refusal, done.count, checksum(to, 1, room));
+    if (done.refusal == CK_ACCEPTED && done.count <= room) hold_bytes(h, to, done.count);
+}
+
+static void form_line(const held *h, char *shown) {
+    ck_done done = ck_check_file(h->file, h->length);
+    sprintf(shown, "%u %zu\n", done.refusal, done.count);
+}
+
+static void record_line(const held *h, char *shown) {
+    ck_record r = ck_record_at(h->file, h->length, next_size());
+    sprintf(shown, "%" PRIu32 " %" PRIu32 " %u %u %u %d %u %u\n", r.u, r.v, r.place, r.low, r.high, r.duv, r.steps, r.class_index);
+}
+
+static void read_line(const held *h, char *shown, const char *line) {
+    void *to[COLUMNS];
+    size_t rooms[COLUMNS];
+    for (int k = 0; k < COLUMNS; k++) {
+        rooms[k] = next_size();
+        to[k] = target(&target_regions[k], WIDTHS[k], rooms[k]);
+    }
+    ck_done done = read_into(h->file, h->length, to, rooms);
+    shown += sprintf(shown, "%u %zu", done.refusal, done.count);
+    for (int k = 0; k < COLUMNS; k++) {
+        check_before(&target_regions[k], to[k], line);
+        shown += sprintf(shown, " %" PRIu32, checksum(to[k], WIDTHS[k], rooms[k]));
+    }
+    sprintf(shown, "\n");
+}
+
+enum { COLUMN_LINE, FILE_LINE, WRITE_LINE, FORM_LINE, RECORD_LINE, READ_LINE, KINDS };
+static const char *const KIND_NAMES[KINDS] = {"column", "file", "write", "form", "record", "read"};
+static long counts[KINDS];
+
+static int kind_of(const char *word) {
+    int kind = 0;
+    while (kind < KINDS && (!word || strcmp(word, KIND_NAMES[kind]) != 0)) kind++;
+    return kind;
+}
+
+static void run_line(held *h, int kind, const char *expected, const char *line) {
+    char shown[256] = "";
+    if (kind == COLUMN_LINE) hold_column(h, shown, line);
+    if (kind == FILE_LINE) hold_file(h, shown);
+    if (kind == WRITE_LINE) write_line(h, shown, line);
+    if (kind == FORM_LINE) form_line(h, shown);
+    if (kind == RECORD_LINE) record_line(h, shown);
+    if (kind == READ_LINE) read_line(h, shown, line);
+    if (strcmp(shown, expected) != 0) fail(shown, line);
+    counts[kind]++;
+}
+
+static void run_vectors(const char *calls_path, const char *answers_path) {
+    static char line[LONGEST_LINE], kept[LONGEST_LINE], expected[LONGEST_LINE];
+    static held h; /* NULL with a count of 0 for each column and the file, until a line replaces it */
+    FILE *calls = open_lines(calls_path), *answers = open_lines(answers_path);
+    while (next_line(line, calls) && next_line(expected, answers)) {
+        memcpy(kept, line, sizeof kept);
+        int kind = kind_of(strtok(line, " \n"));
+        if (kind < KINDS) run_line(&h, kind, expected, kept);
+    }
+    fclose(calls);
+    fclose(answers);
+    for (int kind = 0; kind < KINDS; kind++)
+        if (counts[kind] == 0) fail("no vectors", KIND_NAMES[kind]);
+}
+
+/* --- Cases that only C can make ------------------------------------------------------------------------------------ */
+
+static void expect(ck_done found, uint8_t refusal, size_t count, const char *what) {
+    if (found.refusal != refusal || found.count != count) fail(what, "another outcome");
+}
+
+/* NULL with a count of 0: for everything, and for each column alone, which makes the list one of no records. */
+static void without_a_list(void) {
+    static const uint32_t numbers[1] = {1};
+    static const uint8_t empty[] = {18, 0, 0, 0, 0, 0, 0, 0};
+    held none = {{NULL}, {0}, NULL, 0};
+    void *const no_columns[COLUMNS] = {NULL};
+    uint8_t *to = (uint8_t *)target(&target_file_region, 1, 8);
+    expect(write_held(&none, NULL, 0), CK_NO_ROOM, 0, "NULL for everything");
+    expect(read_into(NULL, 0, no_columns, none.counts), CK_NO_TRAILER, 0, "NULL for everything");
+    expect(read_into(empty, sizeof empty, no_columns, none.counts), CK_ACCEPTED, 0, "no records into NULL");
+    expect(ck_check_file(NULL, 0), CK_NO_TRAILER, 0, "NULL for the file");
+    ck_record at = ck_record_at(NULL, 0, 0);
+    if (at.u || at.v || at.place || at.low || at.high || at.duv || at.steps || at.class_index) fail("NULL for the file", "another record");
+    for (int k = 0; k <= COLUMNS; k++) {
+        held most = none;
+        for (int j = 0; j < COLUMNS; j++)
+            if (j != k && k != COLUMNS) most.columns[j] = numbers, most.counts[j] = 1;
+        memset(to, 0, 8);
+        expect(write_held(&most, to, 8), CK_ACCEPTED, 8, "NULL for a column");
+        if (memcmp(to, empty, sizeof empty) != 0) fail("NULL for a column", "another file");
+    }
+}
+
+/* What is only read may be one: u and v, the three positions, and steps and class. */
+static void columns_that_are_one(void) {
+    static const uint32_t wide[] = {0x01020304, 0xa0b0c0d0};
+    static const uint16_t middle[] = {0x0506, 0xe0f0};
+    static const int16_t duv[] = {-2, 0x0708};
+    static const uint8_t narrow[] = {9, 255};
+    static const uint8_t expected[] = {4, 3, 2, 1, 4, 3, 2, 1, 6, 5, 6, 5, 6, 5, 0xfe, 0xff, 9, 9,
+                                       0xd0, 0xc0, 0xb0, 0xa0, 0xd0, 0xc0, 0xb0, 0xa0, 0xf0, 0xe0, 0xf0, 0xe0, 0xf0, 0xe0, 8, 7, 255, 255,
+                                       18, 0, 2, 0, 36, 0, 0, 0};
+    held one = {{wide, wide, middle, middle, middle, duv, narrow, narrow}, {2, 2, 2, 2, 2, 2, 2, 2}, NULL, 0};
+    uint8_t *to = (uint8_t *)target(&target_file_region, 1, sizeof expected);
+    expect(write_held(&one, to, sizeof expected), CK_ACCEPTED, sizeof expected, "columns that are one");
+    if (memcmp(to, expected, sizeof expected) != 0) fail("columns that are one", "another file");
+}
+
+int main(int argc, char **argv) {
+    if (argc != 3) {
+        fprintf(stderr, "record_test CALLS ANSWERS\n");
+        return 2;
+    }
+    make_regions();
+    without_a_list();
+    columns_that_are_one();
+    run_vectors(argv[1], argv[2]);
+    printf("record_test: %ld files and %ld columns held; %ld written, %ld read, %ld forms and %ld records, %ld failures\n",
+           counts[FILE_LINE], counts[COLUMN_LINE], counts[WRITE_LINE], counts[READ_LINE], counts[FORM_LINE], counts[RECORD_LINE], failures);
+    return failures != 0;
+}

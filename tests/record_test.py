@@ -1,0 +1,293 @@
+"""Record files from Python: the vectors by the functions of C and of the package, what the package takes and names, docs/FILES.md and
+examples/records.c, all against the second program. abi_test.py runs it."""
+
+import array
+import mmap
+import re
+import resource
+import signal
+import subprocess
+import tempfile
+from collections import Counter
+from functools import lru_cache
+from pathlib import Path
+
+import cradlekeel
+import record_cases
+import record_files
+import reference as ref
+import vectors
+from cradlekeel import Record
+from record_calls import (GUARD, c_form, c_read, c_record, c_write, expect, python_form, python_read, python_record,
+                          python_write)
+from record_lines import LETTERS, byte_pattern, pattern
+from spectrum_test import fault_of
+
+ROOT = Path(__file__).resolve().parent.parent
+
+
+def kept(u, v, steps=ref.DEFAULT_STEPS):
+    """The record of a reading by the second program, in a list; an empty one where the reading is refused."""
+    refusal, *numbers = ref.answer("whole", (u, v), ref.TEXT_EDGES, steps)
+    return [] if refusal else [(u, v, *numbers)]
+
+
+# --- Without the library ----------------------------------------------------------------------------------------------
+
+GOOD = Record(219300, 327100, 23112, 21892, 23866, -2331, 2, 2)
+LIMITS = dict(u=(0, 2**32 - 1), v=(0, 2**32 - 1), place=(0, 65_535), low=(0, 65_535), high=(0, 65_535), duv=(-32_768, 32_767),
+              steps=(0, 255), class_index=(0, 255))
+
+
+def check_records_that_do_not_fit():
+    """A number that is not whole, or does not fit its field, is named by its record and field; so is what is no record."""
+    for field, (least, largest) in LIMITS.items():
+        for bad, kind in ((least - 1, ValueError), (largest + 1, ValueError), (2**80, ValueError), (0.5, TypeError), ("1", TypeError)):
+            records = [GOOD, GOOD, GOOD._replace(**{field: bad}), GOOD._replace(u=-1)]
+            for call in (lambda: cradlekeel.to_bytes(records[:3]), lambda: cradlekeel.write_records(iter(records[:3]), bytearray(99))):
+                fault = fault_of(kind, call)
+                assert str(fault).startswith(f"records[2].{field} is {bad!r}, which"), fault
+    fault = fault_of(TypeError, lambda: cradlekeel.to_bytes([GOOD, tuple(GOOD)]))
+    assert str(fault).startswith("records[1] is (219300, "), fault
+
+
+def check_other_arguments():
+    for target in (bytes(99), memoryview(bytearray(99)), array.array("B", bytes(99)), [], None):
+        fault = fault_of(TypeError, lambda: cradlekeel.write_records([GOOD], target))
+        assert type(target).__name__ in str(fault), fault
+    for call in (lambda: cradlekeel.read_records("text"), lambda: cradlekeel.check_file([18, 0]), lambda: cradlekeel.record_at(None, 0)):
+        fault_of(TypeError, call)
+    for room, kind in ((-1, ValueError), (2**64, ValueError), (0.5, TypeError)):
+        assert str(fault_of(kind, lambda: cradlekeel.read_records(bytes(8), room))).startswith("room is ")
+    for index in (-1, 2, 2**64, -2**64):
+        fault_of(IndexError, lambda: cradlekeel.record_at(bytes(44), index))
+    fault_of(TypeError, lambda: cradlekeel.record_at(bytes(44), 0.5))
+
+
+def check_record_values():
+    """A record is equal by value and cannot be changed."""
+    assert GOOD == Record(*GOOD) and hash(GOOD) == hash(Record(*GOOD)) and GOOD != GOOD._replace(steps=3)
+    assert Record._fields == tuple(LIMITS) and "class_index=2" in repr(GOOD)
+    fault_of(AttributeError, lambda: setattr(GOOD, "u", 1))
+
+
+# --- docs/FILES.md ----------------------------------------------------------------------------------------------------
+
+ROW = re.compile(r"^\| (\d+) \| ((?:[0-9a-f]{2} ?)+) \| (record \d|trailer) \| ([a-z ]+) \| (-?\d+) \|", re.MULTILINE)
+DUMP = re.compile(r"^    (\d{7})((?: [0-9a-f]{2})*)$", re.MULTILINE)
+NAMES = tuple(LIMITS)[:-1] + ("class",)  # the page has the names that people read
+
+
+def page_file():
+    """The bytes of the page's file of two records, its records and its trailer as its table explains them."""
+    page = (ROOT / "docs/FILES.md").read_text(encoding="utf-8")
+    file, fields = b"", {}
+    for at, text, part, field, value in ROW.findall(page):
+        assert int(at) == len(file), f"docs/FILES.md: {field} of {part} is not at byte {at}"
+        file += bytes.fromhex(text)
+        fields.setdefault(part, {})[field] = int(value)
+    dumped = DUMP.findall(page)
+    assert b"".join(bytes.fromhex(text) for _, text in dumped) == file and int(dumped[-1][0]) == len(file), "the table is not the dump"
+    trailer = fields.pop("trailer")
+    assert tuple(trailer) == ("record length", "count", "distance") and set(map(tuple, map(dict.keys, fields.values()))) == {NAMES}
+    return file, [tuple(record.values()) for record in fields.values()], tuple(trailer.values())
+
+
+def check_page():
+    """The second program reads the page's bytes to the page's records, which are its own answers to the page's lines."""
+    file, records, trailer = page_file()
+    assert len(records) == 2 and record_files.read(file, 2) == (0, records) and record_files.trailer_of(file) == trailer
+    assert records == [record for u, v, *_, steps, _ in records for record in kept(u, v, steps)]
+
+
+def check_page_by_library():
+    file, records, _ = page_file()
+    assert cradlekeel.read_records(file) == records and cradlekeel.to_bytes(Record(*record) for record in records) == file
+
+
+def self_test():
+    """What needs no library."""
+    check_records_that_do_not_fit()
+    check_other_arguments()
+    check_record_values()
+    check_page()
+
+
+# --- The vectors ------------------------------------------------------------------------------------------------------
+
+
+@lru_cache(maxsize=2)
+def records_of(columns):
+    return [Record(*record) for record in record_files.listed(columns)]
+
+
+def check_write(held, room):
+    refusal, count, after = record_files.write_into(byte_pattern(room), held.columns)
+    done, target = c_write(held.columns, room)
+    expect("ck_write_records", done, (refusal, count))
+    expect("its target", target, after + byte_pattern(room + GUARD)[room:])
+    target = bytearray(byte_pattern(room))
+    expect("write_records", python_write(records_of(held.columns), target), (refusal, count))
+    expect("its target", bytes(target), after)
+    return refusal, count
+
+
+def check_form(held):
+    for ask in (c_form, python_form):
+        expect(ask.__name__, ask(held.file), record_files.form(held.file))
+    return record_files.form(held.file)
+
+
+def check_record(held, index):
+    record = record_files.record_at(held.file, index)
+    expect("ck_record_at", c_record(held.file, index), record)
+    expect("record_at", python_record(held.file, index), record if index < len(held.file) // 18 else ())
+    return record
+
+
+def check_read(held, *rooms):
+    refusal, count, after = record_files.read_into([pattern(*pair) for pair in zip(LETTERS, rooms)], held.file)
+    done, columns = c_read(held.file, rooms)
+    expect("ck_read_records", done, (refusal, count))
+    for letter, room, column, target in zip(LETTERS, rooms, columns, after):
+        expect(f"its column {letter}", column, target + pattern(letter, room + GUARD)[room:])
+    expect("read_records", python_read(held.file, min(rooms)), record_files.read(held.file, min(rooms)))
+    return refusal, count
+
+
+CHECKS = {"write": check_write, "form": check_form, "record": check_record, "read": check_read}
+
+
+def run_vectors():
+    """Every vector of record files; what was checked is also how its committed answer begins."""
+    calls, answers = ((ROOT / f"crates/vectors/{name}").read_text().splitlines() for name in ("stdin", "stdout"))
+    counts = Counter()
+    for (line, held), answer in zip(vectors.with_held(calls), answers):
+        kind, *numbers = line.split()
+        if kind in CHECKS:
+            found = CHECKS[kind](held, *map(int, numbers))
+            assert list(map(str, found)) == answer.split()[:len(found)], (line, answer)
+            counts[kind] += 1
+    assert counts.keys() == CHECKS.keys(), f"the vectors have lines of {list(counts)} only"
+    return counts.total()
+
+
+# --- What the package takes -------------------------------------------------------------------------------------------
+
+
+def mapped(file):
+    held = mmap.mmap(-1, len(file))
+    held[:] = file
+    return held
+
+
+FORMS = (bytes, bytearray, memoryview, mapped, lambda file: memoryview(bytearray(file)), lambda file: array.array("H", file),
+         lambda file: memoryview(b"".join(bytes([byte, 0]) for byte in file))[::2], lambda file: memoryview(b"." + file + b".")[1:-1])
+
+
+def check_bytes_like():
+    """A file may be any bytes-like object, is not changed by being read, and can be changed afterwards."""
+    records = record_cases.random_records(5, record_cases.Dice("bytes-like"))
+    for form, count in ((form, count) for form in FORMS for count in (1, 5)):
+        file = record_files.file_of(records[:count])
+        given = form(file)
+        assert cradlekeel.read_records(given) == records[:count] and cradlekeel.check_file(given) == count
+        assert cradlekeel.record_at(given, count - 1) == records[count - 1] and bytes(given) == file
+        assert python_read(given, count - 1) == (record_files.NO_ROOM, [])
+    held = bytearray(record_files.file_of(records))
+    cradlekeel.check_file(held), cradlekeel.read_records(held)
+    held.append(0)
+    assert cradlekeel.write_records([], held) == 8
+    del held[8:]
+    assert held == record_files.file_of([])
+
+
+def check_rooms():
+    """As much room as anyone asks for, and no more records than a file has."""
+    for room in (3600, 3601, 2**40, 2**64 - 1):
+        assert cradlekeel.read_records(record_files.file_of([GOOD]), room) == [GOOD]
+    assert python_read(record_files.file_of(3601 * [GOOD]), 2**40) == (record_files.TOO_MANY_RECORDS, [])
+
+
+def check_records_of_answers():
+    """`Record.of` on answers of the second program's text input, with a class and without, and on an answer that no reading has."""
+    for line in (line.split() for line in (ROOT / "crates/cradlekeel/stdin").read_bytes().splitlines()[-600:]):
+        u, v, steps = map(int, (*line, ref.DEFAULT_STEPS)[:3])
+        for record in kept(u, v, steps):
+            assert Record.of(u, v, cradlekeel.read_micro(u, v, steps=steps)) == record, line
+    answer = cradlekeel.read_micro(219300, 327100)
+    for field, bad in (("place", 65_536), ("low", 2**32), ("high", -1), ("duv", 0.032768), ("duv", -0.032769), ("steps", 256), ("class_index", -1)):
+        fault_of(ValueError, lambda: Record.of(219300, 327100, cradlekeel.readings.Answer(**{**vars(answer), field: bad})))
+    for u, v in ((-1, 0), (0, 2**32)):
+        fault_of(ValueError, lambda: Record.of(u, v, answer))
+
+
+# --- examples/records.c -----------------------------------------------------------------------------------------------
+
+EXAMPLE = ROOT / "target/abi/records"
+LAMPS = ((255910, 349510), (219300, 327100), (183000, 276000))
+
+
+def lamp_records():
+    return [record for lamp in LAMPS for record in kept(*lamp)]
+
+
+def shown_record(record):
+    u, v, place, _, _, duv, _, cls = record
+    kelvin = f"{float(ref.kelvin_at(place)):.1f} K, " if place else ""
+    return f"{u} {v}: {kelvin}Duv {duv / ref.MICRO:+.6f}, {'no class' if cls == 255 else f'class {cls}'}\n"
+
+
+def run_example(*words, **options):
+    return subprocess.run([EXAMPLE, *words], capture_output=True, text=True, **options)
+
+
+def no_large_files():
+    """Has a write beyond 20 bytes fail, as it does on a full disk."""
+    signal.signal(signal.SIGXFSZ, signal.SIG_IGN)
+    resource.setrlimit(resource.RLIMIT_FSIZE, (20, 20))
+
+
+def check_example():
+    """The program keeps what the second program keeps, shows it, overwrites nothing and leaves nothing half written."""
+    with tempfile.TemporaryDirectory() as folder:
+        path = Path(folder) / "lamps.rec"
+        ran = run_example("save", path, preexec_fn=no_large_files)
+        assert ran.returncode == 1 and "File too large" in ran.stderr and not path.exists(), ran
+        told = "183000 276000 is refused with 6 and not kept\n"
+        ran = run_example("save", path)
+        assert (ran.stdout, ran.stderr, ran.returncode) == (told, "", 0) and path.read_bytes() == record_files.file_of(lamp_records()), ran
+        ran = run_example("show", path)
+        assert (ran.stdout, ran.stderr, ran.returncode) == ("".join(map(shown_record, lamp_records())), "", 0), ran
+        path.write_bytes(b"kept")
+        ran = run_example("save", path)
+        assert ran.returncode == 1 and "File exists" in ran.stderr and path.read_bytes() == b"kept", ran
+        check_example_on_files(path)
+    for words in ((), ("save",), ("show", "a", "b"), ("keep", "a")):
+        ran = run_example(*words)
+        assert ran.returncode == 2 and ran.stderr.startswith("usage: records") and not ran.stdout, ran
+
+
+def check_example_on_files(path):
+    """Any record is shown, and what is no file is refused by its number."""
+    most = record_files.file_of(3600 * [(1, 2, 0, 0, 0, -32_768, 255, 255)])
+    path.write_bytes(most)
+    assert run_example("show", path).stdout == 3600 * shown_record(record_files.record_at(most, 0))
+    for file in (b"", b"no record file", most[18:], b"." + most, most + most, record_files.file_of(3601 * [GOOD])):
+        path.write_bytes(file)
+        ran = run_example("show", path)
+        number = record_files.form(file[:len(most) + 1])[0]  # it reads one byte more than a file can have
+        assert ran.returncode == 1 and f": refusal {number}: " in ran.stderr and not ran.stdout, (number, ran)
+    ran = run_example("show", path.parent / "missing.rec")
+    assert ran.returncode == 1 and "No such file" in ran.stderr, ran
+
+
+def run():
+    """Everything that needs the library; how many vectors there are."""
+    count = run_vectors()
+    check_page_by_library()
+    check_bytes_like()
+    check_rooms()
+    check_records_of_answers()
+    check_example()
+    return count
