@@ -18,18 +18,13 @@ import record_files
 import reference as ref
 import vectors
 from cradlekeel import Record
+from kept import kept
 from record_calls import (GUARD, c_form, c_read, c_record, c_write, expect, python_form, python_read, python_record,
                           python_write)
 from record_lines import LETTERS, byte_pattern, pattern
 from spectrum_test import fault_of
 
 ROOT = Path(__file__).resolve().parent.parent
-
-
-def kept(u, v, steps=ref.DEFAULT_STEPS):
-    """The record of a reading by the second program, in a list; an empty one where the reading is refused."""
-    refusal, *numbers = ref.answer("whole", (u, v), ref.TEXT_EDGES, steps)
-    return [] if refusal else [(u, v, *numbers)]
 
 
 # --- Without the library ----------------------------------------------------------------------------------------------

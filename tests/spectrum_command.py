@@ -221,8 +221,9 @@ def check_usage(folder):
         check(f"{words} is wrong usage", told and not ran.stdout and ran.returncode == 2, ran)
     package = {"command": sys.executable, "env": {**os.environ, "PYTHONPATH": str(ROOT / "python")}}
     ran = run(["-B", "-m", "cradlekeel", "--help"], **package)
-    check("the package names its commands", b"\n  spectrum " in ran.stdout and not ran.stderr and not ran.returncode, ran)
-    for words in ([], ["save"], ["--steps", "3"]):
+    named = all(b"\n  " + name + b" " in ran.stdout for name in (b"save", b"show", b"spectrum"))
+    check("the package names its commands", named and not ran.stderr and not ran.returncode, ran)
+    for words in ([], ["keep"], ["--steps", "3"]):
         ran = run(["-B", "-m", "cradlekeel", *words], **package)
         check(f"{words} is no command", not ran.stdout and ran.stderr.endswith(b"; see cradlekeel --help\n") and ran.returncode == 2, ran)
     expect("the package without the command", run(["-B", "-m", "cradlekeel", "spectrum", EXAMPLE], **package), lines([EXAMPLE]))

@@ -61,7 +61,7 @@ def write_whole(name, held, replace):
             else:
                 put_new(temporary, place)
         finally:
-            with suppress(FileNotFoundError):
+            with suppress(OSError):  # where it was renamed it is gone
                 os.unlink(temporary)
         sync_folder(name, folder)
 
@@ -115,8 +115,9 @@ def put_new(temporary, place):
     except OSError as error:
         if error.errno not in NO_LINKS:
             raise
-        os.close(os.open(place, os.O_WRONLY | os.O_CREAT | os.O_EXCL, 0o666))
+        claimed = os.open(place, os.O_WRONLY | os.O_CREAT | os.O_EXCL, 0o666)
         try:
+            os.close(claimed)
             os.replace(temporary, place)
         except OSError:
             os.unlink(place)

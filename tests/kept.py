@@ -1,0 +1,27 @@
+"""What is kept of readings and of lines, by the second program."""
+
+import record_files
+import reference as ref
+
+
+def kept(u, v, steps=ref.DEFAULT_STEPS):
+    """The record of a reading in millionths, in a list; an empty one where the reading is refused."""
+    refusal, *numbers = ref.answer("whole", (u, v), ref.TEXT_EDGES, steps)
+    return [] if refusal else [(u, v, *numbers)]
+
+
+def kept_of(text):
+    """The records of the accepted lines of an input, in their order."""
+    matches = (ref.LINE.fullmatch(line) for line in ref.lines_of(text) if len(line) <= ref.LONGEST_LINE)
+    return [record for match in matches if match for record in kept(*(int(number) for number in match.groups() if number))]
+
+
+def file_of(text):
+    """The record file of an input."""
+    return record_files.file_of(kept_of(text))
+
+
+def shown(record):
+    """A record as `cradlekeel show` prints it."""
+    *numbers, cls = record
+    return " ".join(map(str, (*numbers, "-" if cls == ref.NO_CLASS else cls)))
