@@ -128,8 +128,9 @@ def check_missing_library():
                              (here, f"{root / here} has no function ck_read_")):
             ran = run_python(["-c", call], named, root)
             assert ran.returncode == 1 and "cradlekeel.LibraryMissing" in ran.stderr and words in ran.stderr, ran.stderr
-            ran = run_python(["-m", "cradlekeel", "spectrum", str(ROOT / "examples/incandescent.csv")], named, root)
-            assert (ran.returncode, ran.stdout, ran.stderr.count("\n")) == (2, "", 1) and words in ran.stderr, ran
+            for command in ("spectrum", "show"):
+                ran = run_python(["-m", "cradlekeel", command, str(ROOT / "examples/incandescent.csv")], named, root)
+                assert (ran.returncode, ran.stdout, ran.stderr.count("\n")) == (2, "", 1) and words in ran.stderr, ran
 
 
 LAMP_EXAMPLES = ("examples/lamp.c", "examples/lamp.py")
