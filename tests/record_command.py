@@ -169,7 +169,7 @@ def check_places(folder):
             (["none/day.rec"], "No such file or directory"), (["--replace", "none/day.rec"], "No such file or directory"),
             (["file/day.rec"], "Not a directory"), (["sub"], "it is a folder"), (["--replace", "sub"], "it is a folder"),
             (["sub/"], "it is a folder"), (["--replace", "new/"], "it is a folder"), (["--replace", "."], "it is a folder"),
-            (["--replace", "pipe"], device), (["--replace", "/dev/null"], device), (["/dev/null"], "the file exists; --replace replaces it"),
+            (["--replace", "pipe"], device), (["pipe"], "the file exists; --replace replaces it"),
             (["x" * 256], "File name too long")):
         expect(f"{words}", save(*words, cwd=folder), b"", f"cradlekeel: {words[-1]}: {said}\n".encode(), 1)
     check("nothing is made", sorted(os.listdir(folder)) == ["file", "pipe", "sub"] and not os.listdir(folder / "sub"), os.listdir(folder))
@@ -264,7 +264,9 @@ for name in ("open", "write", "fchmod", "fsync", "close", "link", "replace", "un
     setattr(os, name, faulty(name, getattr(os, name)))
 save.write_whole = counted
 status = __main__.main(sys.argv[4:])
-sys.exit(status if len(calls) >= at else "no fault in " + " ".join(calls))
+if len(calls) < at:
+    sys.exit("no fault in " + " ".join(calls))
+sys.exit(status or "no word of " + calls[at - 1])
 """
 NO_FAULT = b"no fault in "
 
@@ -293,10 +295,11 @@ def check_faults(folder):
 
 
 def check_fault(what, how, ran, path, before):
-    """What is said of a fault, and what it leaves; a run ends well though it cannot remove its temporary file."""
+    """What is said of a fault, and what it leaves; only of a temporary file that cannot be removed there is no word."""
     check(f"{what}: all answers, and a file as it was or whole", ran.stdout == ANSWERS and holds(path) in (before, FILE), ran)
-    if how == "fail" and ran.returncode == 0:
-        check(f"{what}: whole", holds(path) == FILE and not ran.stderr and len(left_alone(path)) <= 1, ran)
+    no_word = ran.stderr == b"no word of unlink\n"
+    if no_word:
+        check(f"{what}: whole", holds(path) == FILE and len(left_alone(path)) <= 1, ran)
     elif how == "fail":
         told = ran.stderr.endswith(b"Input/output error\n") and ran.stderr.count(b"\n") == 1 and ran.returncode == 1
         check(f"{what}: told", told and (holds(path) == before or b": written, but its folder could not be synced: " in ran.stderr), ran)
@@ -304,7 +307,7 @@ def check_fault(what, how, ran, path, before):
         ended = -(signal.SIGKILL if how == "kill" else signal.SIGTERM)
         check(f"{what}: ends with no word", (ran.stderr, ran.returncode) == (b"", ended), ran)
     for name in left_alone(path):
-        expected = how == "kill" or ran.returncode == 0
+        expected = how == "kill" or no_word
         check(f"{what}: its temporary file stays only where it was killed or could not remove it", expected and name.startswith(".cradlekeel-"), name)
         (path.parent / name).unlink()
 
@@ -370,9 +373,10 @@ def check_output(folder):
 
 
 PROGRAMS = {  # in place of the program, each with what is wrong with it
-    "it answers nothing": "cat >/dev/null", "it ends at once": "exit 0", "it ends with a status": 'exec 3<&0; cat <&3 | "$REAL"; exit 7',
+    "it answers nothing": "cat >/dev/null", "it ends at once": "sleep 0.3", "it ends with a status": '"$REAL"; exit 7',
     "it is killed": "head -c 1 >/dev/null; kill -9 $$", "it says something": '"$REAL"; echo no >&2',
     "it leaves a line out": '"$REAL" | tail -n +2', "its last line is cut": '"$REAL" | head -c -1',
+    "it prints more than answers": '"$REAL"; printf 8', "it prints a line more": '"$REAL"; echo 8',
 }
 
 
@@ -386,7 +390,8 @@ def check_program(folder):
         program.write_text(f"#!/bin/sh\n{text}\n")
         program.chmod(0o755)
         ran = run(["-B", "-c", script, program, "save", path], 5000 * (LINES + b"\n"), **options)  # more than a pipe holds
-        told = ran.stderr.startswith(b"cradlekeel: the program has not answered every line; its exit status is ") and ran.stderr.count(b"\n") == 1
+        told = ran.stderr.startswith((b"cradlekeel: the program has not answered every line; its exit status is ",
+                                      b"cradlekeel: the program has answered more lines than there are")) and ran.stderr.count(b"\n") == 1
         check(what, told and ran.returncode == 1 and not path.exists(), ran)
     program.unlink()
     for what, named, words in (("program", {}, b"the program is not built"), ("library", {"CRADLEKEEL_LIBRARY": "/none.so"}, b"there is no such file")):

@@ -4,7 +4,7 @@ import importlib
 import signal
 import sys
 
-from .commands import ANSWERED, FAILED, NOT_RUN, BadFile, Failed, WrongUsage, say, write_out
+from .commands import ANSWERED, FAILED, NOT_RUN, BadFile, Failed, HelpAsked, WrongUsage, say, write_out
 
 COMMANDS = {  # a module of cradlekeel.commands for each
     "save": "the answers to lines, kept in a record file too",
@@ -31,7 +31,7 @@ def main(words):
             return ANSWERED
         if name not in COMMANDS:
             raise WrongUsage(f"'{name}' is not a command" if words else "no command is named")
-        return importlib.import_module(f".commands.{name}", __package__).run(words[1:])
+        return run_command(importlib.import_module(f".commands.{name}", __package__), words[1:])
     except WrongUsage as error:
         say(f"{error}; see cradlekeel {name + ' ' if name in COMMANDS else ''}--help")
         return NOT_RUN
@@ -41,6 +41,14 @@ def main(words):
     except OSError as error:  # the library, the program or a table of data/ is not there
         say(error)
         return NOT_RUN
+
+
+def run_command(command, words):
+    try:
+        return command.run(words)
+    except HelpAsked:
+        write_out(command.__doc__)
+        return ANSWERED
 
 
 def usage():

@@ -8,6 +8,10 @@ import re
 ANSWERED, FAILED, NOT_RUN = 0, 1, 2  # exit statuses: 1 where a file could not be read or written, 2 for wrong usage or no library
 
 
+class HelpAsked(Exception):
+    """The help of a command is asked for."""
+
+
 class WrongUsage(Exception):
     """Words that a command does not take."""
 
@@ -48,7 +52,9 @@ def options_of(words, names):
         options, others = getopt.gnu_getopt(words, "h", ["help", *names])
     except getopt.GetoptError as error:
         raise WrongUsage(error.msg) from None
-    return {"--help" if name == "-h" else name: value for name, value in options}, others
+    if {"-h", "--help"} & {name for name, _ in options}:
+        raise HelpAsked
+    return dict(options), others
 
 
 def whole_number(option, text):

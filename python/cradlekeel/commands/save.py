@@ -45,9 +45,6 @@ ACCEPTED = b"0 "
 def run(words):
     """Answers standard input and keeps what was accepted in the file that the words name."""
     options, names = options_of(words, ["replace"])
-    if "--help" in options:
-        write_out(__doc__)
-        return ANSWERED
     if len(names) != 1:
         raise WrongUsage("more than one file is named" if names else "no file is named")
     (name,), replace = names, "--replace" in options
@@ -91,7 +88,7 @@ class Feeder(Thread):
         self.pipe, self.lines, self.fault, self.ended = pipe, deque(), None, False
 
     def run(self):
-        signal.pthread_sigmask(signal.SIG_BLOCK, {signal.SIGPIPE})  # a program that is gone is an error here
+        signal.pthread_sigmask(signal.SIG_BLOCK, signal.valid_signals())  # they are for the main thread
         try:
             for block in whole_lines():
                 self.lines.extend(block.removesuffix(b"\n").split(b"\n"))
@@ -103,6 +100,12 @@ class Feeder(Thread):
             self.fault = error
         self.ended = True
         self.pipe.close()
+
+    def next_line(self):
+        """The line to which the next answer belongs."""
+        if not self.lines:
+            raise Failed("the program has answered more lines than there are")
+        return self.lines.popleft()
 
 
 def whole_lines():
@@ -126,15 +129,11 @@ def kept_answers():
     with subprocess.Popen([PROGRAM], **pipes) as process:
         feeder = Feeder(process.stdin)
         feeder.start()
-        try:
-            while printed := process.stdout.read(BLOCK):
-                write_out(printed)
-                *answers, rest = (rest + printed).split(b"\n")
-                for answer in answers:
-                    kept.take(feeder.lines.popleft(), answer)
-        except BaseException:
-            process.kill()
-            raise
+        while printed := process.stdout.read(BLOCK):
+            write_out(printed)
+            *answers, rest = (rest + printed).split(b"\n")
+            for answer in answers:
+                kept.take(feeder.next_line(), answer)
         said = process.stderr.read()
     if feeder.fault:
         raise Failed(f"cannot read standard input: {feeder.fault.strerror}")

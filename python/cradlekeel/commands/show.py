@@ -29,15 +29,12 @@ library is missing.
 
 from .. import Refusal, read_records
 from ..readings import KELVIN_PLACES, NO_CLASS
-from . import ANSWERED, BadFile, WrongUsage, bytes_of, each_file, options_of, write_out
+from . import BadFile, WrongUsage, bytes_of, each_file, options_of, write_out
 
 
 def run(words):
     """Shows each file that the words name."""
     options, names = options_of(words, ["kelvin"])
-    if "--help" in options:
-        write_out(__doc__)
-        return ANSWERED
     if not names:
         raise WrongUsage("no file is named")
     worded = with_kelvin if "--kelvin" in options else line_of

@@ -36,7 +36,7 @@ from decimal import Decimal
 from typing import NamedTuple
 
 from .. import EDGES, STEPS, BadSpectrum, BelowZero, Refusal, read_micro, read_spectrum
-from . import ANSWERED, BadFile, WrongUsage, bytes_of, each_file, options_of, say, whole_number, write_out
+from . import BadFile, WrongUsage, bytes_of, each_file, options_of, say, whole_number, write_out
 
 NUMBER = re.compile(r"[+-]?(?:[0-9]+\.?[0-9]*|\.[0-9]+)(?:[eE][+-]?[0-9]{1,3})?")
 LONGEST_NUMBER = 100  # characters
@@ -53,9 +53,6 @@ class Row(NamedTuple):
 def run(words):
     """Answers each file that the words name."""
     options, names = options_of(words, ["steps=", "edges=", "clip"])
-    if "--help" in options:
-        write_out(__doc__)
-        return ANSWERED
     if not names:
         raise WrongUsage("no file is named")
     steps = whole_number("--steps", options["--steps"]) if "--steps" in options else STEPS
