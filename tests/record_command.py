@@ -380,23 +380,44 @@ PROGRAMS = {  # in place of the program, each with what is wrong with it
 }
 
 
+# Runs the command with another program.
+OTHER_PROGRAM = """
+import sys
+from pathlib import Path
+from cradlekeel import __main__
+from cradlekeel.commands import save
+
+save.PROGRAM = Path(sys.argv[1])
+sys.exit(__main__.main(sys.argv[2:]))
+"""
+NOT_ALL = b"cradlekeel: the program has not answered every line; its exit status is "
+TOO_MANY = b"cradlekeel: the program has answered more lines than there are\n"
+
+
 def check_program(folder):
-    """A program that does not answer every line is told of, and nothing is kept; one that is missing is wrong from the start."""
-    script = "import sys; from pathlib import Path; from cradlekeel import __main__; from cradlekeel.commands import save; " \
-             "save.PROGRAM = Path(sys.argv[1]); sys.exit(__main__.main(sys.argv[2:]))"
+    """A program that does not answer every line is told of, and nothing is kept; so is one that ends before the input does."""
     program, path = folder / "program", folder / "day.rec"
-    options = {"command": sys.executable, "env": {**os.environ, "PYTHONPATH": str(ROOT / "python"), "REAL": str(PROGRAM)}}
+    words = [sys.executable, "-B", "-c", OTHER_PROGRAM, program, "save", path]
+    options = {"env": {**os.environ, "PYTHONPATH": str(ROOT / "python"), "REAL": str(PROGRAM)}, "capture_output": True, "timeout": PATIENCE}
     for what, text in PROGRAMS.items():
         program.write_text(f"#!/bin/sh\n{text}\n")
         program.chmod(0o755)
-        ran = run(["-B", "-c", script, program, "save", path], 5000 * (LINES + b"\n"), **options)  # more than a pipe holds
-        told = ran.stderr.startswith((b"cradlekeel: the program has not answered every line; its exit status is ",
-                                      b"cradlekeel: the program has answered more lines than there are")) and ran.stderr.count(b"\n") == 1
+        ran = subprocess.run(words, input=5000 * (LINES + b"\n"), **options)  # more than a pipe holds
+        told = ran.stderr.startswith((NOT_ALL, TOO_MANY)) and ran.stderr.count(b"\n") == 1
         check(what, told and ran.returncode == 1 and not path.exists(), ran)
-    program.unlink()
+    program.write_text("#!/bin/sh\n")
+    read_end, write_end = os.pipe()
+    ran = subprocess.run(words, stdin=read_end, **options)
+    check("it ends before the input does", ran.stderr == NOT_ALL + b"0\n" and ran.returncode == 1 and not path.exists(), ran)
+    os.close(read_end)
+    os.close(write_end)
+
+
+def check_missing(folder):
+    """Without the program or the library nothing is read."""
+    path, environment = folder / "day.rec", {**os.environ, "PYTHONPATH": str(ROOT / "python")}
     for what, named, words in (("program", {}, b"the program is not built"), ("library", {"CRADLEKEEL_LIBRARY": "/none.so"}, b"there is no such file")):
-        options["env"] |= named
-        ran = run(["-B", "-c", script, program, "save", path], LINES, **options)
+        ran = run(["-B", "-c", OTHER_PROGRAM, folder / "none", "save", path], LINES, sys.executable, env=environment | named)
         check(f"no {what}", (ran.returncode, ran.stdout) == (2, b"") and words in ran.stderr and not path.exists(), ran)
 
 
@@ -514,5 +535,5 @@ def check_copy(folder):
 
 
 PARTS = (check_first_run, check_kept, check_most, check_answers_come, check_existing, check_appearing, check_links, check_places, check_modes,
-         check_permissions, check_faults, check_full_disk, check_stopped, check_input, check_output, check_program, check_shown,
+         check_permissions, check_faults, check_full_disk, check_stopped, check_input, check_output, check_program, check_missing, check_shown,
          check_bad_files, check_show_output, check_usage, check_copy)
