@@ -54,12 +54,12 @@ enum {
 /* Why a record file was not written or not read: the value of `refusal` in ck_done. Of this list too the first that applies is
  * given; writing can meet the last two only. */
 enum {
-    CK_NO_TRAILER = 13,        /* the file is shorter than 8 bytes */
-    CK_BAD_RECORD_LENGTH = 14, /* the record length in its trailer is not 18 */
-    CK_BAD_TRAILER = 15,       /* the trailer does not point back by 18 bytes for each record of its count, or the file is not
-                                  exactly those records and the trailer */
-    CK_TOO_MANY_RECORDS = 11,  /* over 3,600 records */
-    CK_NO_ROOM = 12            /* a target is too small; one that is just large enough is not */
+    CK_NO_TRAILER = 13,        /* the file has fewer than 8 bytes */
+    CK_BAD_RECORD_LENGTH = 14, /* its trailer has another record length than 18 */
+    CK_BAD_TRAILER = 15,       /* the trailer's distance is not 18 for each record of its count, or the file has more or fewer
+                                  bytes than these records and the trailer */
+    CK_TOO_MANY_RECORDS = 11,  /* there are more than 3,600 records */
+    CK_NO_ROOM = 12            /* a target is too small; one that is just large enough is taken */
 };
 
 /* The value of `class_index` where no class is named. */
@@ -129,10 +129,11 @@ ck_answer ck_read_samples(const uint32_t *samples, size_t sample_count, const ui
 
 /* --- Record files --------------------------------------------------------------------------------------------------------
  *
- * A record file keeps readings with their answers: 18 bytes for each record, little-endian, its fields in the order of ck_record,
- * and then a trailer of 8 bytes: the record length, 18, in 2 bytes, the count in 2, and in 4 the bytes from the trailer's start
- * back to the first record. docs/FILES.md shows one byte by byte. A record may hold any number that fits its field: these
- * functions check the form of a file, not what its records say. examples/records.c is a whole program. */
+ * A record file keeps readings with their answers: 18 bytes for each record, its fields in the order of ck_record, and then a
+ * trailer of 8 bytes: the record length (16 bits), the count of records (16 bits), and the distance (32 bits), which is how many
+ * bytes before the trailer the first record begins. All numbers are little-endian; docs/FILES.md shows a file byte by byte.
+ * A record may hold any number that fits its field: these functions check the form of a file, not what its records say.
+ * examples/records.c is a whole program. */
 
 enum { CK_RECORD_BYTES = 18, CK_TRAILER_BYTES = 8, CK_MOST_RECORDS = 3600 };
 

@@ -34,17 +34,17 @@ def stored(kind, numbers):
 def c_read(file, rooms):
     """(refusal, count), and the columns with their guards after `ck_read_records` over the pattern."""
     columns = [stored(kind, pattern(letter, room + GUARD)) for kind, letter, room in zip(KINDS, LETTERS, rooms)]
-    lent = ctypes.create_string_buffer(file, len(file))
-    done = c_function("ck_read_records")(lent, len(file), *(part for pair in zip(columns, rooms) for part in pair))
-    expect("the bytes read from, afterwards", lent.raw, file)
+    given = ctypes.create_string_buffer(file, len(file))
+    done = c_function("ck_read_records")(given, len(file), *(part for pair in zip(columns, rooms) for part in pair))
+    expect("the bytes read from, afterwards", given.raw, file)
     return (done.refusal, done.count), [tuple(column) for column in columns]
 
 
 def c_write(columns, room):
     """(refusal, count), and the target with its guard after `ck_write_records` over the pattern."""
-    lent = [part for kind, column in zip(KINDS, columns) for part in (stored(kind, column), len(column))]
+    given = [part for kind, column in zip(KINDS, columns) for part in (stored(kind, column), len(column))]
     target = stored(ctypes.c_uint8, byte_pattern(room + GUARD))
-    done = c_function("ck_write_records")(*lent, target, room)
+    done = c_function("ck_write_records")(*given, target, room)
     return (done.refusal, done.count), bytes(target)
 
 

@@ -101,7 +101,7 @@ def read_records(file, room=MOST_RECORDS):
     """
     room = min(whole("room", room, ctypes.c_size_t), MOST_RECORDS)  # no file that is read has more
     columns = [(kind * room)() for _, kind in _FIELDS]
-    count = _count(c_function("ck_read_records")(*_lent(file), *(part for column in columns for part in (column, room))))
+    count = _count(c_function("ck_read_records")(*_as_file(file), *(part for column in columns for part in (column, room))))
     return list(map(Record._make, zip(*(column[:count] for column in columns))))
 
 
@@ -115,7 +115,7 @@ def check_file(file):
         ...
     cradlekeel.Refusal: refusal 13: the file is too short to be a record file: it has fewer than 8 bytes
     """
-    return _count(c_function("ck_check_file")(*_lent(file)))
+    return _count(c_function("ck_check_file")(*_as_file(file)))
 
 
 def record_at(file, index):
@@ -128,10 +128,10 @@ def record_at(file, index):
         ...
     IndexError: the bytes end before record 1 does
     """
-    lent, length = _lent(file)
+    held, length = _as_file(file)
     if not 0 <= operator.index(index) < length // RECORD_BYTES:
         raise IndexError(f"the bytes end before record {index} does")
-    return Record(*_numbers(c_function("ck_record_at")(lent, length, index)))
+    return Record(*_numbers(c_function("ck_record_at")(held, length, index)))
 
 
 def _numbers(stored):
@@ -146,8 +146,8 @@ def _count(done):
     return done.count
 
 
-def _lent(file):
-    """Bytes as C takes them, where they stand and how many they are; a copy only where they are not bytes and cannot be lent."""
+def _as_file(file):
+    """Bytes as C takes them, where they stand and how many they are; copied only where they are neither bytes nor can be written."""
     if not isinstance(file, bytes):
         view = memoryview(file)
         if view.c_contiguous and not view.readonly:

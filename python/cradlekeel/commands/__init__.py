@@ -17,7 +17,7 @@ class WrongUsage(Exception):
 
 
 class Failed(Exception):
-    """Standard input that cannot be read, or standard output that cannot be written: the command ends here."""
+    """Standard input that cannot be read, standard output that cannot be written, or a program that fails: the command ends here."""
 
 
 class BadFile(Exception):

@@ -1,8 +1,8 @@
 """usage: cradlekeel save [--replace] FILE < LINES
 
-Prints what cradlekeel < LINES prints, line by line as it comes, and keeps every accepted answer with u and v of its line in FILE, a
-record file, in the order of the lines. Refused and unreadable lines are printed and not kept. cradlekeel --help tells of lines
-and answers, cradlekeel show prints a record file, and docs/FILES.md has its format.
+Prints what cradlekeel < LINES prints, answer by answer as they come, and keeps every accepted one with u and v of its line in
+FILE, a record file, in the order of the lines. What is refused or cannot be read is printed and not kept. cradlekeel --help
+tells of lines and answers, cradlekeel show prints a record file, and docs/FILES.md has its format.
 
   --replace     write FILE even if it exists; without it, such a file is left alone and nothing is read
   -h, --help    this text
@@ -11,17 +11,17 @@ Examples:
   cradlekeel save monday.rec < lines.txt
   cradlekeel save --replace monday.rec < lines.txt > answers.txt
 
-FILE is written once all lines are answered: whole or not at all, by a temporary file .cradlekeel-.. in the same folder. It holds
-at most 3600 records; with more, refusal 11 is said and nothing is kept. Without an accepted line it holds no record. It says
-nothing where all went well; cradlekeel show FILE | wc -l counts what was kept. With --replace a link is followed, the file keeps
-its mode, and a file that may not be written, or is no regular file, is left alone.
+FILE is written once all lines are answered, whole or not at all, by way of a temporary file .cradlekeel-.. in the same folder. It
+holds at most 3600 records: of more, none is kept, and refusal 11 is said. Without an accepted line it holds none. With
+--replace a link is followed, the file keeps its mode, and one that may not be written, or is no regular file, is left alone.
+The command says nothing where all went well; cradlekeel show FILE | wc -l counts what was kept.
 
 The first run of bin/cradlekeel save proves and builds the program and the library (a few minutes); later ones start at once.
 
 Exit status: 0 every line is answered and FILE is written; 1 standard input could not be read, standard output or FILE not be
-written, FILE exists, or there were too many answers; 2 wrong usage, or the program or the library is missing. FILE is as it was
-unless the status is 0. So it is too where answers could not be printed or a reader went away, as `head` does (141): what nobody was
-shown is not kept.
+written, FILE exists, or there were too many answers; 2 wrong usage, or the program or the library is missing. With 1 and 2
+FILE is as it was, unless the message says that it is written. It is so too where a reader goes away, as `head` does (141):
+answers that could not be printed are not kept.
 """
 
 import os
