@@ -126,11 +126,11 @@ def record_at(file, index):
     >>> record_at(bytes(18) + b"cut off", 1)
     Traceback (most recent call last):
         ...
-    IndexError: the bytes end before record 1 does
+    IndexError: the bytes have no whole record 1
     """
     held, length = _as_file(file)
     if not 0 <= operator.index(index) < length // RECORD_BYTES:
-        raise IndexError(f"the bytes end before record {index} does")
+        raise IndexError(f"the bytes have no whole record {index}")
     return Record(*_numbers(c_function("ck_record_at")(held, length, index)))
 
 
