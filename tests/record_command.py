@@ -108,7 +108,8 @@ def check_answers_come(folder):
 
 def check_existing(folder):
     """Without --replace a file that exists is left alone and nothing is read; with it the file is replaced."""
-    path, lines = folder / "day.rec", folder.parent / f"{folder.name}.txt"
+    (folder / "kept").mkdir()
+    path, lines = folder / "kept/day.rec", folder / "lines.txt"
     said = f"cradlekeel: {path}: the file exists; --replace replaces it\n".encode()
     path.write_bytes(OLD)
     lines.write_bytes(LINES)
@@ -116,13 +117,12 @@ def check_existing(folder):
         ran = subprocess.run([COMMAND, "save", path], stdin=given, capture_output=True, timeout=PATIENCE)
         expect("a file that exists", ran, b"", said, 1)
         check("nothing is read", os.lseek(given.fileno(), 0, os.SEEK_CUR) == 0, "something")
-    lines.unlink()
-    check("it is left alone", holds(path) == OLD and not left_alone(path), os.listdir(folder))
+    check("it is left alone", holds(path) == OLD and not left_alone(path), os.listdir(path.parent))
     expect("--replace", save("--replace", path), ANSWERS)
-    check("it is replaced", holds(path) == FILE and not left_alone(path), os.listdir(folder))
+    check("it is replaced", holds(path) == FILE and not left_alone(path), os.listdir(path.parent))
     path.unlink()
     expect("--replace where there is none", save(path, "--replace"), ANSWERS)
-    check("it is made", holds(path) == FILE and not left_alone(path), os.listdir(folder))
+    check("it is made", holds(path) == FILE and not left_alone(path), os.listdir(path.parent))
 
 
 def check_appearing(folder):
@@ -416,7 +416,8 @@ def check_program(folder):
 def check_missing(folder):
     """Without the program or the library nothing is read."""
     path, environment = folder / "day.rec", {**os.environ, "PYTHONPATH": str(ROOT / "python")}
-    for what, named, words in (("program", {}, b"the program is not built"), ("library", {"CRADLEKEEL_LIBRARY": "/none.so"}, b"there is no such file")):
+    no_library = {"CRADLEKEEL_LIBRARY": "/none.so"}
+    for what, named, words in (("program", {}, b"the program is not built"), ("library", no_library, b"there is no such file")):
         ran = run(["-B", "-c", OTHER_PROGRAM, folder / "none", "save", path], LINES, sys.executable, env=environment | named)
         check(f"no {what}", (ran.returncode, ran.stdout) == (2, b"") and words in ran.stderr and not path.exists(), ran)
 
@@ -446,9 +447,11 @@ def check_shown(folder):
     places = record_files.read(holds(folder / "places.rec"), 3600)[1]
     expect("the temperature at many places", show(folder / "places.rec", "--kelvin"), shown_lines(places, True))
     expect("no records", show("none.rec", "--kelvin", cwd=folder))
-    expect("several files, in their order", show("all.rec", "none.rec", "places.rec", "all.rec", cwd=folder), shown_lines(EXTREMES + places + EXTREMES))
+    ran = show("all.rec", "none.rec", "places.rec", "all.rec", cwd=folder)
+    expect("several files, in their order", ran, shown_lines(EXTREMES + places + EXTREMES))
     expect("standard input", show("-", text=record_files.file_of(EXTREMES)), shown_lines(EXTREMES))
-    expect("standard input twice", show("-", "all.rec", "-", text=record_files.file_of(places), cwd=folder), shown_lines(places + EXTREMES), refused("-", 13) + b"\n", 1)
+    ran = show("-", "all.rec", "-", text=record_files.file_of(places), cwd=folder)
+    expect("standard input twice", ran, shown_lines(places + EXTREMES), refused("-", 13) + b"\n", 1)
 
 
 BAD_FILES = {  # by the refusal that each meets

@@ -1,4 +1,5 @@
-"""Runs a command of the package: `python3 -m cradlekeel COMMAND ..`, which is `bin/cradlekeel COMMAND ..` once the library is built."""
+"""Runs a command of the package: `python3 -m cradlekeel COMMAND ..`, which is `bin/cradlekeel COMMAND ..` once the library is built, and
+for save the program too."""
 
 import importlib
 import signal
