@@ -294,10 +294,10 @@ static void listing(void) {
 
 /* Answers that this library never gives: numbers at the limits of their fields and beyond them, and refusals with other numbers. */
 static void records_of_any_answer(void) {
-    ck_whole largest = {65535, 65535, 65535, 32767, CK_ACCEPTED, 255, 255};
+    const ck_whole largest = {65535, 65535, 65535, 32767, CK_ACCEPTED, 255, 255};
+    const ck_whole least = {0, 0, 0, -32768, CK_ACCEPTED, 0, 0};
     check_record(UINT32_MAX, 0, largest, 1, "every field the largest");
-    largest.duv = -32768;
-    check_record(0, UINT32_MAX, largest, 1, "duv the least");
+    check_record(0, UINT32_MAX, least, 1, "every field the least");
     for (int which = 0; which < 9; which++) {
         ck_whole other = largest;
         uint32_t *const places[] = {&other.place, &other.low, &other.high};
