@@ -184,7 +184,7 @@ typedef struct ck_kept {
 } ck_kept;
 
 /* The record of a reading u, v in millionths and its answer, the member `whole` where that is a ck_answer. `kept` is 0 where the
- * answer is a refusal, or has a number that is too large for its field; no answer of this library has one. */
+ * answer is a refusal, or has a place over 65,535 or a Duv over 32,767 either side of 0; no answer of this library has one. */
 ck_kept ck_record_of(uint32_t u, uint32_t v, ck_whole answer);
 
 #ifdef __cplusplus

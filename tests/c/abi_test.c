@@ -295,14 +295,14 @@ static void listing(void) {
 /* Answers that this library never gives: numbers at the limits of their fields and beyond them, and refusals with other numbers. */
 static void records_of_any_answer(void) {
     const ck_whole largest = {65535, 65535, 65535, 32767, CK_ACCEPTED, 255, 255};
-    const ck_whole least = {0, 0, 0, -32768, CK_ACCEPTED, 0, 0};
+    const ck_whole least = {0, 0, 0, -32767, CK_ACCEPTED, 0, 0};
     check_record(UINT32_MAX, 0, largest, 1, "every field the largest");
     check_record(0, UINT32_MAX, least, 1, "every field the least");
     for (int which = 0; which < 9; which++) {
         ck_whole other = largest;
         uint32_t *const places[] = {&other.place, &other.low, &other.high};
         if (which < 6) *places[which % 3] = which < 3 ? 65536 : UINT32_MAX;
-        if (which >= 6) other.duv = which == 6 ? 32768 : which == 7 ? -32769 : INT32_MIN;
+        if (which >= 6) other.duv = which == 6 ? 32768 : which == 7 ? -32768 : INT32_MIN;
         check_record(1, 2, other, 0, "a number beyond its field");
     }
     for (int refusal = 1; refusal < 256; refusal++) {
