@@ -50,8 +50,8 @@ fn plain_form(form: Form) -> Done
             count: 0,
             refusal: refusal.number(),
         },
-        Form::Records(n) => Done {
-            count: n,
+        Form::Records(records) => Done {
+            count: records,
             refusal: 0,
         },
     }
