@@ -1,6 +1,5 @@
--- `signed_16` is safe: the casts keep the number, by the laws of Signed.
+-- `signed_16` is safe: the casts keep the number, by the laws of Signed in the crate records.
 use Prim.Native.Nat.{_%_}
-use native.Mathlib.Omega.{arith}
 use borrow.Author.Needs.{needs}
 use Rattle.records.proofs.Signed.{difference-fits, difference-narrow}
 use Rattle.vectors.proofs.columns.signed_16.Statement.{statement}
