@@ -55,6 +55,13 @@ module _ (c : Columns) (n : ℕ) (e : n ≡ sizeOf c) (old : List ℕ) where
   pub back-written : n ≤ 3600 → AllNarrow duvWidth (rows c n) → SameList (listOf c)
   back-written h ns = read-written (listOf c) (subst (AllNarrow duvWidth) rows-are ns) (omega (arith, length-list c, e))
 
+-- what the test of the room says, of the list's own length
+pub too-short : {a b n : ℕ} → a ≡ b → a < n → b < n
+too-short {n = n} e h = subst (λ (k : ℕ). k < n) e h
+
+pub long-enough : {a b n : ℕ} → a ≡ b → n ≤ a → n ≤ b
+long-enough {n = n} e h = subst (λ (k : ℕ). n ≤ k) e h
+
 module _ (l : List ℕ) (n room : ℕ) (e : formOf l ≡ form.Records n) where
   pub short-read : room < n → Refused NoRoom ≡ readOutcome l room
   short-read h = let k = form-readable l n e in sym (condition-read l room NoRoom (short-columns (k .0) (omega (arith, k .1))))

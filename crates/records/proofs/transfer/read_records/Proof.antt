@@ -5,7 +5,7 @@ use Rattle.records.specs.Columns.{Columns, columns, sizeOf}
 use Rattle.records.specs.Files.{formOf}
 use Rattle.records.specs.declared.files.Form.the-variants.{Records}
 use Rattle.records.proofs.Numbers.{each-byte}
-use Rattle.records.proofs.Transfers.{size-is, short-read, done-read, file-holds, again-read, bad-read}
+use Rattle.records.proofs.Transfers.{size-is, too-short, long-enough, short-read, done-read, file-holds, again-read, bad-read}
 use borrow.Author.Needs.{needs}
 use Rattle.records.proofs.transfer.read_records.Statement.{statement}
 use Rattle.records.proofs.transfer.read_records.Tie as tie
@@ -37,7 +37,7 @@ returns c =
     let after-shortest = c .before in
     let after-n = after-shortest .before .before in
     let start = after-n .before .before .before .before .before .before .before .before .before .before .before in
-    (short-read (start .args .file .now) (after-n .n .given .0 .0) (sizeOf (lent start)) (form-is after-n) (omega (arith, size after-shortest, c .if1 .taken)), (refl, (refl, tt)))
+    (short-read (start .args .file .now) (after-n .n .given .0 .0) (sizeOf (lent start)) (form-is after-n) (too-short (size after-shortest) (c .if1 .taken)), (refl, (refl, tt)))
 
 fill-rows-requires : tie.Need-fill-rows-requires
 fill-rows-requires c κs =
@@ -45,7 +45,7 @@ fill-rows-requires c κs =
     let after-shortest = else1 .before in
     let after-n = after-shortest .before .before in
     let start = after-n .before .before .before .before .before .before .before .before .before .before .before in
-    (omega (arith, size after-shortest, else1 .if1 .left), file-holds (start .args .file .now) (after-n .n .given .0 .0) (sizeOf (lent start)) (form-is after-n))
+    (long-enough (size after-shortest) (else1 .if1 .left), file-holds (start .args .file .now) (after-n .n .given .0 .0) (sizeOf (lent start)) (form-is after-n))
 
 returns-2 : tie.Need-returns-2
 returns-2 c =
@@ -87,7 +87,7 @@ returns-3 c =
     let after-shared-slice-known = after-n .before .before .before .before .before .before .before .before .before .before in
     let start = after-shared-slice-known .before in
     let room = sizeOf (lent start) in (
-      done-read (start .args .file .now) (after-n .n .given .0 .0) room (form-is after-n) (omega (arith, size after-shortest, else1 .if1 .left)),
+      done-read (start .args .file .now) (after-n .n .given .0 .0) room (form-is after-n) (long-enough (size after-shortest) (else1 .if1 .left)),
       (
         after-fill-rows .fill-rows .ensures,
         (refl, again-read (start .args .file .now) (after-n .n .given .0 .0) room (form-is after-n) (each-byte (start .args .file .now) (after-shared-slice-known .shared-slice-known .given))),
