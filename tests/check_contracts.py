@@ -4,10 +4,11 @@
     python3 tests/check_contracts.py --self-test   small texts, each with one fault, which must be found
 
 Of every public function: it has an `ensures`; the result is given by an equation, `r ≡ ..`; it has no `requires`; what is lent by
-`&` is said to be unchanged, in a promise of its own or as one of several joined by `×`; what is lent by `&mut` is spoken of at
-`.exit`; docs/TRACE.md names it. Of those of an entry crate also: each parameter is spoken of. What departs from this stands below
-with its reason and must still be needed; a promise that is no equation must be, word for word, the one that stands here, and a
-`requires` of an entry crate has no exception."""
+`&` is said to be unchanged, in a promise of its own, as one of several joined by `×` or as one of `columns`; what is lent by `&mut`
+is spoken of at `.exit`; docs/TRACE.md names it. Every promise is an equation: of the result, of what `&mut` lends as it is at the
+end, or of what `&` lends as unchanged. Of those of an entry crate also: each parameter is spoken of. What departs from this stands
+below with its reason and must still be needed; a promise that is no equation must be, word for word, the one that stands here, and
+a `requires` of an entry crate has no exception."""
 
 import re
 import sys
@@ -18,7 +19,7 @@ sys.dont_write_bytecode = True
 from check_trace import TRACE, named_functions
 from rattle_source import functions, functions_of, library_crates
 
-ENTRY_CRATES = ("cct", "cct_c", "text")
+ENTRY_CRATES = ("cct", "cct_c", "kept", "records", "text")
 
 # Functions with a `requires`, and why.
 REQUIRES = {
@@ -30,17 +31,26 @@ REQUIRES = {
     "search::run": "an admitted reading with the span about its entry, as admit and span_about hand them over",
 }
 
-# Functions whose result no equation gives: the promise that stands instead, and why.
+# Promises that are no equation: whether instead of the result's equation or beside it, the promise, and why it stands.
+INSTEAD, BESIDE = "instead", "beside"
 PROMISES = {
-    "text::block": ("λ r. ⌜ Blocked scan (now (input .entry)) (now (out .entry)) (now (out .exit)) r ⌝",
+    "records::read_records": (BESIDE, "λ r. ⌜ WritesAgain r (now (file .entry)) ⌝",
+                              "what `written-read` says of a list of bytes, for the machine's: no hypothesis is left"),
+    "records::write_records": (BESIDE, "λ r. ⌜ ReadsBack r (listOf (columns (now (u .entry)) (now (v .entry)) (now (place .entry)) "
+                               "(now (low .entry)) (now (high .entry)) (now (duv .entry)) (now (steps .entry)) (now (class .entry)))) ⌝",
+                               "what `read-written` says of a list of records, for the machine's numbers: no hypothesis is left"),
+    "text::block": (INSTEAD, "λ r. ⌜ Blocked scan (now (input .entry)) (now (out .entry)) (now (out .exit)) r ⌝",
                     "the record Blocked gives every field, and the whole buffer, by an equation each"),
-    "text::finish": ("λ r. ⌜ Wrote 0 (now (out .entry)) (now (out .exit)) r (closes scan) ⌝",
+    "text::finish": (INSTEAD, "λ r. ⌜ Wrote 0 (now (out .entry)) (now (out .exit)) r (closes scan) ⌝",
                      "the record Wrote gives the end and the whole buffer by an equation each"),
 }
 
 EQUATION = re.compile(r"^λ (?P<result>\w+)\. ⌜ (?P=result) ≡ (?P<value>.+) ⌝$")
 PROMISE = re.compile(r"^λ \w+\. ⌜ (?P<said>.+) ⌝$")
 UNCHANGED = re.compile(r"now \((?P<name>«?\w+»?) \.exit\) ≡ now \((?P=name) \.entry\)")
+SLICE = r"now \(«?\w+»? \.(?:exit|entry)\)"
+COLUMNS = re.compile(r"columns(?: \(%s\))+" % SLICE)  # a record of its arguments: two are equal only where all of these are
+AT_END = re.compile(r"now \(«?\w+»? \.exit\)|columns(?: \(now \(«?\w+»? \.exit\)\))+")
 
 
 def mentions(name, text):
@@ -54,14 +64,30 @@ def is_equation(promise):
     return match is not None and not mentions(match["result"], match["value"])
 
 
-def unchanged_by(promise):
-    """The names that a promise says to be unchanged: it is one such equation, or several in brackets joined by `×`."""
+def parts_of(promise):
+    """What a promise says, in parts: several in brackets joined by `×`, or, of two `columns`, an equation for each argument."""
     match = PROMISE.match(promise)
     parts = match["said"].split(" × ") if match else []
     if len(parts) > 1:
-        parts = [part[1:-1] if part[0] + part[-1] == "()" else "" for part in parts]
-    equations = list(map(UNCHANGED.fullmatch, parts))
+        return [part[1:-1] if part[0] + part[-1] == "()" else "" for part in parts]
+    sides = parts[0].split(" ≡ ") if parts else []
+    if len(sides) == 2 and all(map(COLUMNS.fullmatch, sides)):
+        left, right = (re.findall(SLICE, side) for side in sides)
+        return ["%s ≡ %s" % pair for pair in zip(left, right)] if len(left) == len(right) else [""]
+    return parts
+
+
+def unchanged_by(promise):
+    """The names that a promise says to be unchanged, where it says nothing else."""
+    equations = list(map(UNCHANGED.fullmatch, parts_of(promise)))
     return {equation["name"].strip("«»") for equation in equations} if all(equations) else set()
+
+
+def is_of_the_end(promise):
+    """Whether a promise gives what is lent, as it is at the end, by something that does not speak of the end."""
+    match = PROMISE.match(promise)
+    left, equals, right = match["said"].partition(" ≡ ") if match else ("", "", "")
+    return AT_END.fullmatch(left) is not None and equals != "" and ".exit" not in right
 
 
 def parameter_faults(name, kind, promises, is_entry):
@@ -74,7 +100,7 @@ def parameter_faults(name, kind, promises, is_entry):
         if not any(name in unchanged_by(promise) for promise in promises):
             yield "unchanged " + name
     elif is_entry and not mentions(name, spoken):
-        yield "silent on " + name
+        yield "silent " + name
 
 
 def contract_faults(function, is_entry):
@@ -86,6 +112,9 @@ def contract_faults(function, is_entry):
         yield "never requires" if is_entry else "requires"
     if not any(map(is_equation, function.ensures)):
         yield "equation"
+    for promise in function.ensures:
+        if not (is_equation(promise) or is_of_the_end(promise) or unchanged_by(promise)):
+            yield "promise " + promise
     for name, kind in function.parameters:
         yield from parameter_faults(name, kind, function.ensures, is_entry)
 
@@ -100,9 +129,13 @@ class Rules(NamedTuple):
 
 
 def is_excused(name, function, fault, rules):
-    """Whether an exception allows a fault; one to the equation does only where its promise stands."""
-    if fault == "equation":
-        return name in rules.promises and rules.promises[name][0] in function.ensures
+    """Whether an exception allows a fault; one to an equation does only where its promise stands, word for word."""
+    word, _, what = fault.partition(" ")
+    stands, said, _ = rules.promises.get(name, ("", "", ""))
+    if word == "promise":
+        return what == said
+    if word == "equation":
+        return stands == INSTEAD and said in function.ensures
     return fault == "requires" and name in rules.requires
 
 
@@ -113,12 +146,17 @@ def faults_of(crates, rules):
         for function in (f for f in listed if f.public):
             name = "%s::%s" % (crate, function.name)
             for fault in contract_faults(function, crate in rules.entry_crates):
-                used.add((name, fault))
-                if not is_excused(name, function, fault, rules):
-                    found.append("%s: %s" % (name, MEANING[fault.split()[0]] % fault.split()[-1]))
+                word, _, what = fault.partition(" ")
+                if is_excused(name, function, fault, rules):
+                    used.add((name, word))
+                else:
+                    found.append("%s: %s" % (name, MEANING[word] % (what or word)))
             if name not in rules.traced:
                 found.append("%s: docs/TRACE.md does not name it" % name)
-    listed = {(name, "requires") for name in rules.requires} | {(name, "equation") for name in rules.promises}
+    listed = {(name, "requires") for name in rules.requires}
+    listed |= {(name, "equation") for name, (stands, *_) in rules.promises.items() if stands == INSTEAD}
+    lost = [name for name in sorted(rules.promises) if (name, "promise") not in used]
+    found += ["%s: the promise that tests/check_contracts.py has is not there" % name for name in lost]
     return found + ["%s: the exception '%s' is not needed" % exception for exception in sorted(listed - used)]
 
 
@@ -127,6 +165,7 @@ MEANING = {
     "requires": "it has a %s that is not among the exceptions in tests/check_contracts.py",
     "never": "it is an entry point and has a %s",
     "equation": "no promise is an %s `r ≡ ..` of its result, or the one that tests/check_contracts.py has instead",
+    "promise": "a promise is no equation, and not the one that tests/check_contracts.py has: %s",
     "unchanged": "no promise says that the lent `%s` is unchanged",
     "exit": "no promise speaks of what `%s` holds at the end",
     "silent": "no promise speaks of the parameter `%s`",
@@ -156,6 +195,14 @@ pub fn point(us: &[u32; 24], vs: &[u32; 24]) -> u32
     us[0]
 }
 
+pub fn store(xs: &[u32], ys: &[i16], rows: &mut [u32], file: &mut [u8]) -> u32
+    ensures answers { λ r. ⌜ r ≡ sizeOf (columns (now (xs .entry)) (now (ys .entry))) ⌝ }
+    ensures unchanged { λ _. ⌜ columns (now (xs .exit)) (now (ys .exit)) ≡ columns (now (xs .entry)) (now (ys .entry)) ⌝ }
+    ensures target { λ r. ⌜ columns (now (rows .exit)) (now (file .exit)) ≡ filled r (now (rows .entry)) (now (file .entry)) ⌝ }
+{
+    0
+}
+
 impl Board {
     pub fn size(self) -> u32
         ensures { λ r. ⌜ r ≡ sizeOf self ⌝ }
@@ -168,7 +215,7 @@ pub(crate) fn inner(x: u32) -> u32 {
     x
 }
 """
-TRACED = {"good::add", "good::point", "good::Board::size"}
+TRACED = {"good::add", "good::point", "good::store", "good::Board::size"}
 
 # What is changed in the text above, and the words of a fault that must be found then.
 FAULTS = (
@@ -184,6 +231,13 @@ FAULTS = (
     ("(now (us .exit) ≡ now", "r ≡ 0 → (now (us .exit) ≡ now", "the lent `vs` is unchanged"),
     ("(now (vs .exit) ≡ now (vs .entry))", "(now (vs .exit) ≡ now (us .entry))", "the lent `vs` is unchanged"),
     ("now (out .exit) ≡ bytes r", "now (out .entry) ≡ bytes r", "what `out` holds"),
+    ("now (out .exit) ≡ bytes r", "now (out .exit) ≡ now (out .exit)", "a promise is no equation"),
+    ("now (out .exit) ≡ bytes r", "x ≡ 0 → now (out .exit) ≡ bytes r", "a promise is no equation"),
+    ("columns (now (xs .exit)) (now (ys .exit)) ≡", "columns (now (ys .exit)) (now (xs .exit)) ≡", "the lent `xs` is unchanged"),
+    ("≡ columns (now (xs .entry)) (now (ys .entry))", "≡ columns (now (xs .entry))", "the lent `ys` is unchanged"),
+    ("columns (now (xs .exit)) (now (ys .exit)) ≡ columns", "sum (now (xs .exit)) (now (ys .exit)) ≡ sum", "`ys` is unchanged"),
+    ("≡ filled r (now (rows .entry))", "≡ filled r (now (rows .exit))", "a promise is no equation"),
+    ("λ r. ⌜ r ≡ sizeOf self ⌝ }", "λ r. ⌜ r ≡ sizeOf self ⌝ } ensures { λ r. ⌜ Sized 0 self r ⌝ }", "is no equation"),
     ("pub fn add(", "pub fn plus(", "docs/TRACE.md does not name it"),
     ("pub(crate) fn inner", "pub fn inner", "it has no ensures"),
 )
@@ -213,14 +267,17 @@ def self_test():
     assert check(GOOD, (), small) == ["good::add: the exception 'requires' is not needed"], check(GOOD, (), small)
     assert len(check(bounded, ("good",), small)) == 2
     whole, weak = (GOOD.replace("r ≡ sizeOf self", said) for said in ("Sized 0 self r", "Sized 1 self r"))
-    sized = {"good::Board::size": ("λ r. ⌜ Sized 0 self r ⌝", "the record Sized gives it")}
-    assert check(whole, promises=sized) == [], check(whole, promises=sized)
-    assert len(check(weak, promises=sized)) == 1 and "no promise is an equation" in check(weak, promises=sized)[0]
-    assert check(GOOD, promises=sized) == ["good::Board::size: the exception 'equation' is not needed"]
+    both = GOOD.replace("λ r. ⌜ r ≡ sizeOf self ⌝ }", "λ r. ⌜ r ≡ sizeOf self ⌝ } ensures { λ r. ⌜ Sized 0 self r ⌝ }")
+    no_equation, other, lost, unneeded = "no promise is an equation", "a promise is no equation", "is not there", "is not needed"
+    for stands, expected in ((INSTEAD, ([], [no_equation, other, lost, unneeded], [unneeded], [lost, unneeded])),
+                             (BESIDE, ([no_equation], [no_equation, other, lost], [], [lost]))):
+        for text, words in zip((whole, weak, both, GOOD), expected):
+            found = check(text, promises={"good::Board::size": (stands, "λ r. ⌜ Sized 0 self r ⌝", "the record Sized gives it")})
+            assert len(found) == len(words) and all(word in fault for word, fault in zip(words, found)), (stands, words, found)
     try:
         functions(GOOD.replace("pub fn add", "pub unsafe fn add"))
     except ValueError:
-        print("check_contracts: the self-test found all %d faults" % (len(FAULTS) + len(ENTRY_FAULTS) + 6))
+        print("check_contracts: the self-test found all %d faults" % (len(FAULTS) + len(ENTRY_FAULTS) + 10))
     else:
         sys.exit("check_contracts: a function that is not read goes unnoticed")
 
