@@ -28,7 +28,8 @@ use Rattle.cct.specs.RefusalLaws.{Decided, refusal, clear, decided, cond
 pub record Bounded (a : Answer) : Type 0 where
   pub from : firstPlace ≤ a .place
   pub to : a .place ≤ lastPlace
-  pub low : a .low ≤ lastPlace
+  pub low : firstPlace ≤ a .low
+  pub order : a .low ≤ a .high
   pub high : a .high ≤ lastPlace
   pub duv : natAbs (a .duv) * natAbs (a .duv) ≤ limit
 
@@ -51,7 +52,7 @@ accepted-bounded es c u v n k =
     let i = after-range (distanceAt u v) m (r .0) (r .1) (stepsOf n) (omega arith) in
     let f = after-near (distanceAt u v) m (r .0) (r .1) (stepsOf n) (omega arith) in
     let near : entryDistance u v m ≤ limit = ltb-false limit (entryDistance u v m) (k .near) in
-    record { from = i .best-low; to = i .best-high; low = omega (arith, i .order, i .high); high = i .high; duv = duv-near u v (after (distanceAt u v) m (stepsOf n) .best) (omega (arith, entry-distance u v m (r .0) (r .1))) }
+    record { from = i .best-low; to = i .best-high; low = i .low; order = i .order; high = i .high; duv = duv-near u v (after (distanceAt u v) m (stepsOf n) .best) (omega (arith, entry-distance u v m (r .0) (r .1))) }
 
 -- every accepted answer lies there
 pub answer-bounded : (es : List ℕ) (c : Converted) (n : ℕ) → answer es c n .refusal ≡ 0 → Bounded (answer es c n)

@@ -10,6 +10,7 @@ ghost use Rattle.records.specs.Fields.{duvWidth};
 ghost use Rattle.records.specs.Files.{recordAt, formOf};
 ghost use Rattle.records.specs.Columns.{columns, sizeOf, listOf};
 ghost use Rattle.records.specs.Transfer.{writeOutcome, written, readOutcome, readInto};
+ghost use Rattle.records.specs.RoundTrips.{ReadsBack, WritesAgain};
 ghost use Rattle.kept.specs.Keeping.{keep};
 ghost use Rattle.cct_c.specs.Plain.{plainOutcome, plainForm, plainKept};
 
@@ -97,6 +98,7 @@ pub extern "C" fn ck_write_records(
     ensures outcome { λ r. ⌜ r ≡ plainOutcome (writeOutcome (sizeOf (columns (now (u .entry)) (now (v .entry)) (now (place .entry)) (now (low .entry)) (now (high .entry)) (now (duv .entry)) (now (steps .entry)) (now (class .entry)))) (length (now (file .entry)))) ⌝ }
     ensures target { λ _. ⌜ now (file .exit) ≡ written (writeOutcome (sizeOf (columns (now (u .entry)) (now (v .entry)) (now (place .entry)) (now (low .entry)) (now (high .entry)) (now (duv .entry)) (now (steps .entry)) (now (class .entry)))) (length (now (file .entry)))) (listOf (columns (now (u .entry)) (now (v .entry)) (now (place .entry)) (now (low .entry)) (now (high .entry)) (now (duv .entry)) (now (steps .entry)) (now (class .entry)))) (now (file .entry)) ⌝ }
     ensures unchanged { λ _. ⌜ columns (now (u .exit)) (now (v .exit)) (now (place .exit)) (now (low .exit)) (now (high .exit)) (now (duv .exit)) (now (steps .exit)) (now (class .exit)) ≡ columns (now (u .entry)) (now (v .entry)) (now (place .entry)) (now (low .entry)) (now (high .entry)) (now (duv .entry)) (now (steps .entry)) (now (class .entry)) ⌝ }
+    ensures back { λ _. ⌜ ReadsBack (writeOutcome (sizeOf (columns (now (u .entry)) (now (v .entry)) (now (place .entry)) (now (low .entry)) (now (high .entry)) (now (duv .entry)) (now (steps .entry)) (now (class .entry)))) (length (now (file .entry)))) (listOf (columns (now (u .entry)) (now (v .entry)) (now (place .entry)) (now (low .entry)) (now (high .entry)) (now (duv .entry)) (now (steps .entry)) (now (class .entry)))) ⌝ }
 {
     plain_outcome(records::write_records(u, v, place, low, high, duv, steps, class, file))
 }
@@ -117,6 +119,7 @@ pub extern "C" fn ck_read_records(
     ensures outcome { λ r. ⌜ r ≡ plainOutcome (readOutcome (now (file .entry)) (sizeOf (columns (now (u .entry)) (now (v .entry)) (now (place .entry)) (now (low .entry)) (now (high .entry)) (now (duv .entry)) (now (steps .entry)) (now (class .entry))))) ⌝ }
     ensures target { λ _. ⌜ columns (now (u .exit)) (now (v .exit)) (now (place .exit)) (now (low .exit)) (now (high .exit)) (now (duv .exit)) (now (steps .exit)) (now (class .exit)) ≡ readInto (readOutcome (now (file .entry)) (sizeOf (columns (now (u .entry)) (now (v .entry)) (now (place .entry)) (now (low .entry)) (now (high .entry)) (now (duv .entry)) (now (steps .entry)) (now (class .entry))))) (now (file .entry)) (columns (now (u .entry)) (now (v .entry)) (now (place .entry)) (now (low .entry)) (now (high .entry)) (now (duv .entry)) (now (steps .entry)) (now (class .entry))) ⌝ }
     ensures unchanged { λ _. ⌜ now (file .exit) ≡ now (file .entry) ⌝ }
+    ensures again { λ _. ⌜ WritesAgain (readOutcome (now (file .entry)) (sizeOf (columns (now (u .entry)) (now (v .entry)) (now (place .entry)) (now (low .entry)) (now (high .entry)) (now (duv .entry)) (now (steps .entry)) (now (class .entry))))) (now (file .entry)) ⌝ }
 {
     plain_outcome(records::read_records(file, u, v, place, low, high, duv, steps, class))
 }

@@ -61,7 +61,7 @@ within-duv n h = go (leb n 32767) refl
 pub accepted-fits : (es : List ℕ) (c : Converted) (n : ℕ) → answer es c n .refusal ≡ 0 → Fits (answer es c n)
 accepted-fits es c n e =
     let b = answer-bounded es c n e in
-    record { place = omega (arith, b .to); low = omega (arith, b .low); high = omega (arith, b .high); duv = within-duv (natAbs (answer es c n .duv)) (b .duv) }
+    record { place = omega (arith, b .to); low = omega (arith, b .order, b .high); high = omega (arith, b .high); duv = within-duv (natAbs (answer es c n .duv)) (b .duv) }
 
 -- so every accepted answer is kept, number for number, with the u and v that it is given
 pub accepted-kept : (u v : ℕ) (es : List ℕ) (c : Converted) (n : ℕ) → answer es c n .refusal ≡ 0 → keep u v (answer es c n) ≡ is.Kept (recordOf u v (answer es c n))

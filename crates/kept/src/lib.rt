@@ -10,7 +10,7 @@ pub enum Kept {
     NotKept,
 }
 
-// The largest place, and the largest Duv either side of zero, that a record's fields of two bytes hold.
+// The largest place that is kept, and how far from zero a Duv may be that is kept; a record's fields of two bytes hold them.
 const LARGEST_PLACE: u32 = 65535;
 
 const LARGEST_DUV: u32 = 32767;

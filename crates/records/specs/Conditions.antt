@@ -6,12 +6,12 @@ use lib.ListN.{length}
 use Rattle.refusal.specs.declared.Refusal.{Refusal}
 use Rattle.refusal.specs.declared.Refusal.the-variants.{TooManyRecords, NoRoom, NoTrailer, BadRecordLength, BadTrailer}
 use Rattle.records.specs.Fields.{duvWidth, recordLength}
-use Rattle.records.specs.Files.{mostRecords, trailerLength, fileLength, lengthIn, countIn, backIn}
+use Rattle.records.specs.Files.{mostRecords, trailerLength, fileLength, recordLengthIn, countIn, backIn}
 
 -- the file ends in a trailer with the right record length
 pub record Trailed (l : List ℕ) : Type 0 where
   pub long : trailerLength ≤ length l
-  pub width : lengthIn l ≡ recordLength duvWidth
+  pub record-length : recordLengthIn l ≡ recordLength duvWidth
 
 -- the distance back is that of the count, and the file is exactly the records and the trailer
 pub record Agrees (l : List ℕ) : Type 0 where
@@ -27,7 +27,7 @@ pub record Readable (l : List ℕ) : Type 0 where
 -- the form of a file
 pub data FormCondition (l : List ℕ) : Refusal → Type 0 where
   no-trailer : length l < trailerLength → FormCondition l NoTrailer
-  bad-length : trailerLength ≤ length l → (lengthIn l ≡ recordLength duvWidth → ⊥) → FormCondition l BadRecordLength
+  bad-length : trailerLength ≤ length l → (recordLengthIn l ≡ recordLength duvWidth → ⊥) → FormCondition l BadRecordLength
   bad-trailer : Trailed l → (Agrees l → ⊥) → FormCondition l BadTrailer
   too-many : Trailed l → Agrees l → mostRecords < countIn l → FormCondition l TooManyRecords
 

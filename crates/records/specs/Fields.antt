@@ -1,4 +1,4 @@
--- A record in bytes (document 02, No. 4). The width of Duv is a parameter, duvWidth bytes in the files of now. Definitions only.
+-- A record in bytes (document 02, No. 4). How many bytes Duv has is a parameter d; a file has duvWidth of them. Definitions only.
 use Prim.Native.Nat.{ℕ, _+_}
 use mathlib.Core.List.{List, [], _∷_}
 use lib.ListN.{getD}

@@ -57,8 +57,8 @@ recordAt d l i = cond (ltb i (length l / recordLength d)) (frontRecord d (drop (
 abbrev pub trailerNumbers : List ℕ → List ℕ
 trailerNumbers l = unpack trailerWidths (drop (length l - trailerLength) l)
 
-abbrev pub lengthIn : List ℕ → ℕ
-lengthIn l = getD (trailerNumbers l) 0 0
+abbrev pub recordLengthIn : List ℕ → ℕ
+recordLengthIn l = getD (trailerNumbers l) 0 0
 
 abbrev pub countIn : List ℕ → ℕ
 countIn l = getD (trailerNumbers l) 1 0
@@ -74,9 +74,9 @@ sizedForm d count back n =
     (Refused BadTrailer)
 
 -- before them stands refusal 14, by the record length
-abbrev pub trailerForm : (long count back n : ℕ) → Form
-trailerForm long count back n = cond (eqb long (recordLength duvWidth)) (sizedForm duvWidth count back n) (Refused BadRecordLength)
+abbrev pub trailerForm : (length count back n : ℕ) → Form
+trailerForm length count back n = cond (eqb length (recordLength duvWidth)) (sizedForm duvWidth count back n) (Refused BadRecordLength)
 
 -- the form of a file: refusals 13, 14, 15 and 11, in this order, or how many records it has
 unfoldable pub formOf : List ℕ → Form
-formOf l = cond (ltb (length l) trailerLength) (Refused NoTrailer) (trailerForm (lengthIn l) (countIn l) (backIn l) (length l))
+formOf l = cond (ltb (length l) trailerLength) (Refused NoTrailer) (trailerForm (recordLengthIn l) (countIn l) (backIn l) (length l))

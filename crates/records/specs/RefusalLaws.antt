@@ -11,7 +11,7 @@ use Rattle.arith.specs.TestLaws.{and-both, both-and}
 use Rattle.refusal.specs.declared.Refusal.{Refusal}
 use Rattle.refusal.specs.declared.Refusal.the-variants.{TooManyRecords, NoRoom, NoTrailer, BadRecordLength, BadTrailer}
 use Rattle.records.specs.Fields.{duvWidth, recordLength}
-use Rattle.records.specs.Files.{mostRecords, trailerLength, fileLength, lengthIn, countIn, backIn, formOf}
+use Rattle.records.specs.Files.{mostRecords, trailerLength, fileLength, recordLengthIn, countIn, backIn, formOf}
 use Rattle.records.specs.Transfer.{writeOutcome, readOutcome}
 use Rattle.records.specs.Conditions.{Trailed, Agrees, Readable, FormCondition, no-trailer, bad-length, bad-trailer, too-many, WriteCondition, over-most, short-target, ReadCondition, bad-form, short-columns}
 use Rattle.records.specs.declared.files.Form.the-variants as form
@@ -41,17 +41,17 @@ agrees-false l h = go (agrees l) refl
 pub condition-form : (l : List ℕ) (r : Refusal) → FormCondition l r → formOf l ≡ form.Refused r
 unfolding formOf
 condition-form l r (no-trailer h) = rw (lt-ltb (length l) trailerLength h) refl
-condition-form l r (bad-length h w) = rw (le-ltb (length l) trailerLength h, ne-eqb (lengthIn l) (recordLength duvWidth) w) refl
+condition-form l r (bad-length h w) = rw (le-ltb (length l) trailerLength h, ne-eqb (recordLengthIn l) (recordLength duvWidth) w) refl
 condition-form l r (bad-trailer t a) =
-    rw (le-ltb (length l) trailerLength (t .long), eq-eqb (lengthIn l) (recordLength duvWidth) (t .width), agrees-false l a) refl
+    rw (le-ltb (length l) trailerLength (t .long), eq-eqb (recordLengthIn l) (recordLength duvWidth) (t .record-length), agrees-false l a) refl
 condition-form l r (too-many t a m) =
-    rw (le-ltb (length l) trailerLength (t .long), eq-eqb (lengthIn l) (recordLength duvWidth) (t .width), agrees-true l a, lt-leb (countIn l) mostRecords m) refl
+    rw (le-ltb (length l) trailerLength (t .long), eq-eqb (recordLengthIn l) (recordLength duvWidth) (t .record-length), agrees-true l a, lt-leb (countIn l) mostRecords m) refl
 
 -- where no condition is met, the form is the count
 pub readable-form : (l : List ℕ) → Readable l → formOf l ≡ form.Records (countIn l)
 unfolding formOf
 readable-form l k =
-    rw (le-ltb (length l) trailerLength (k .trailed .long), eq-eqb (lengthIn l) (recordLength duvWidth) (k .trailed .width), agrees-true l (k .agrees), le-leb (countIn l) mostRecords (k .few)) refl
+    rw (le-ltb (length l) trailerLength (k .trailed .long), eq-eqb (recordLengthIn l) (recordLength duvWidth) (k .trailed .record-length), agrees-true l (k .agrees), le-leb (countIn l) mostRecords (k .few)) refl
 
 -- either a refusal's condition is met, or none is
 pub data FormDecided (l : List ℕ) : Type 0 where
@@ -60,17 +60,17 @@ pub data FormDecided (l : List ℕ) : Type 0 where
 
 -- one of the two holds, whatever the bytes
 pub form-decided : (l : List ℕ) → FormDecided l
-form-decided l = go (ltb (length l) trailerLength) (eqb (lengthIn l) (recordLength duvWidth)) (agrees l) (leb (countIn l) mostRecords) refl refl refl refl
+form-decided l = go (ltb (length l) trailerLength) (eqb (recordLengthIn l) (recordLength duvWidth)) (agrees l) (leb (countIn l) mostRecords) refl refl refl refl
   where
-    trailed : ltb (length l) trailerLength ≡ false → eqb (lengthIn l) (recordLength duvWidth) ≡ true → Trailed l
-    trailed s w = record { long = ltb-false (length l) trailerLength s; width = eqb-true (lengthIn l) (recordLength duvWidth) w }
+    trailed : ltb (length l) trailerLength ≡ false → eqb (recordLengthIn l) (recordLength duvWidth) ≡ true → Trailed l
+    trailed s w = record { long = ltb-false (length l) trailerLength s; record-length = eqb-true (recordLengthIn l) (recordLength duvWidth) w }
 
     disagrees : agrees l ≡ false → Agrees l → ⊥
     disagrees e a = false≢true (sym e ∙ agrees-true l a)
 
-    go : (a b c d : Bool) → ltb (length l) trailerLength ≡ a → eqb (lengthIn l) (recordLength duvWidth) ≡ b → agrees l ≡ c → leb (countIn l) mostRecords ≡ d → FormDecided l
+    go : (a b c d : Bool) → ltb (length l) trailerLength ≡ a → eqb (recordLengthIn l) (recordLength duvWidth) ≡ b → agrees l ≡ c → leb (countIn l) mostRecords ≡ d → FormDecided l
     go true b c d s w e m = refusal NoTrailer (no-trailer (ltb-true (length l) trailerLength s))
-    go false false c d s w e m = refusal BadRecordLength (bad-length (ltb-false (length l) trailerLength s) (eqb-false (lengthIn l) (recordLength duvWidth) w))
+    go false false c d s w e m = refusal BadRecordLength (bad-length (ltb-false (length l) trailerLength s) (eqb-false (recordLengthIn l) (recordLength duvWidth) w))
     go false true false d s w e m = refusal BadTrailer (bad-trailer (trailed s w) (disagrees e))
     go false true true false s w e m = refusal TooManyRecords (too-many (trailed s w) (true-agrees l e) (leb-false (countIn l) mostRecords m))
     go false true true true s w e m = readable (record { trailed = trailed s w; agrees = true-agrees l e; few = leb-true (countIn l) mostRecords m })

@@ -1,4 +1,4 @@
--- What is written reads back as the same list, and what the reader takes is written again byte for byte: the proofs.
+-- A list comes back from the file that is written of it, and a file from the list that is read from it: the proofs.
 use mathlib.Core.Path.{_≡_, refl, sym, ap, _∙_}
 use mathlib.Core.List.{List, [], _∷_, append-nil}
 use Prim.Native.Nat.{ℕ, _-_, _*_, _/_, _≤_, _<_}
@@ -39,7 +39,7 @@ file-readable rs h =
     let back = ap (λ (t : List ℕ). getD t 2 0) e in
     let size = length-file duvWidth rs in (
       record {
-        trailed = record { long = omega (arith, size); width = long };
+        trailed = record { long = omega (arith, size); record-length = long };
         agrees = record { back = omega (arith, back, count); exact = omega (arith, back, size) };
         few = omega (arith, count);
       },
@@ -64,7 +64,7 @@ written-read l b k =
     let at = length l - trailerLength in
     let end : length l ≡ fileLength duvWidth n = omega (arith, k .agrees .exact, k .agrees .back) in
     let begins : at ≡ recordLength duvWidth * n = omega (arith, end) in
-    let numbers : trailerNumbers l ≡ recordLength duvWidth ∷ n ∷ recordLength duvWidth * n ∷ [] = λ i. k .trailed .width i ∷ n ∷ k .agrees .back i ∷ [] in
+    let numbers : trailerNumbers l ≡ recordLength duvWidth ∷ n ∷ recordLength duvWidth * n ∷ [] = λ i. k .trailed .record-length i ∷ n ∷ k .agrees .back i ∷ [] in
     let rest : length (drop at l) ≡ trailerLength = omega (arith, length-drop at l, end) in
     let trailer : pack trailerWidths (recordLength duvWidth ∷ n ∷ recordLength duvWidth * n ∷ []) ≡ drop (recordLength duvWidth * n) l
     = ap (pack trailerWidths) (sym numbers) ∙ pack-unpack trailerWidths (drop at l) (omega arith) (bytes-drop at l b)

@@ -1,4 +1,4 @@
--- What is written reads back as the same list, and what the reader takes is written again byte for byte (document 02, No. 4): the statements.
+-- A list comes back from the file that is written of it, and a file from the list that is read from it (document 02, No. 4): the statements.
 use mathlib.Core.Path.{_≡_}
 use mathlib.Core.List.{List}
 use Prim.Native.Nat.{ℕ}
@@ -27,12 +27,12 @@ abbrev pub WritesAgain : Outcome → List ℕ → Type 0
 WritesAgain (Refused r) l = Unit
 WritesAgain (Done n) l = fileOf duvWidth (recordsIn duvWidth n l) ≡ l
 
--- the same through the columns: the list in c, written over a target of old bytes in k bytes, and these read into d, which has room
+-- the same through the columns: the list in c is written over a target that held old; the k bytes written are read into d, which has room
 pub record ColumnsBack (c d : Columns) (old : List ℕ) (k : ℕ) : Type 0 where
   pub outcome : readOutcome (take k (written (Done k) (listOf c) old)) (sizeOf d) ≡ Done (sizeOf c)
   pub list : listOf (firstRows (sizeOf c) (readInto (Done (sizeOf c)) (take k (written (Done k) (listOf c) old)) d)) ≡ listOf c
 
--- and the file l, read into d as n records, whose rows are written over a target of old bytes, which has room
+-- and the file l is read into d as n records; the rows of these are written over a target that held old and has room
 pub record FileAgain (l : List ℕ) (d : Columns) (n : ℕ) (old : List ℕ) : Type 0 where
   pub size : sizeOf (firstRows n (readInto (Done n) l d)) ≡ n
   pub outcome : writeOutcome n (length old) ≡ Done (length l)

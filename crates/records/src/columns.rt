@@ -72,6 +72,7 @@ pub(crate) fn store(
     requires { ⌜ HasRow (columns (now u) (now v) (now place) (now low) (now high) (now duv) (now steps) (now class)) i ⌝ }
     ensures { λ _. ⌜ columns (now (u .exit)) (now (v .exit)) (now (place .exit)) (now (low .exit)) (now (high .exit)) (now (duv .exit)) (now (steps .exit)) (now (class .exit)) ≡ stored (columns (now (u .entry)) (now (v .entry)) (now (place .entry)) (now (low .entry)) (now (high .entry)) (now (duv .entry)) (now (steps .entry)) (now (class .entry))) i r ⌝ }
 {
+    // Only a whole local can be stored where signed numbers lie.
     let signed = r.duv;
     u[i] = r.u;
     v[i] = r.v;

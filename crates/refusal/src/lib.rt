@@ -23,15 +23,15 @@ pub enum Refusal {
     BadLengths,
     // A sample or an observer table's number over its limit.
     SampleTooLarge,
-    // More records than a file has.
+    // More records than a file may have.
     TooManyRecords,
     // A target too short for what it is to hold.
     NoRoom,
     // A file that is shorter than a trailer.
     NoTrailer,
-    // A file whose records are not as long as records are.
+    // A file whose trailer has a record length that is not read.
     BadRecordLength,
-    // A file whose trailer does not tell where its records are.
+    // A file whose trailer's distance back is not that of its count, or that is not exactly its records and its trailer.
     BadTrailer,
 }
 

@@ -1,7 +1,8 @@
 -- `ck_read_records` meets its contract: it does what `read_records` does.
-use mathlib.Core.Path.{refl, ap, _∙_}
+use mathlib.Core.Path.{refl, ap, subst, _∙_}
 use Rattle.records.specs.Columns.{columns}
 use Rattle.records.specs.Transfer.{readInto}
+use Rattle.records.specs.RoundTrips.{WritesAgain}
 use Rattle.records.specs.declared.transfer.Outcome.{Outcome}
 use Rattle.cct_c.specs.Plain.{plainOutcome}
 use borrow.Author.Needs.{needs}
@@ -42,9 +43,13 @@ returns : tie.Need-returns
 returns c =
     let after-read-records = c .before .before .before .before .before .before .before .before .before .before .before .before .before .before .before .before in
     let start = after-read-records .before .before .before .before .before .before .before .before .before .before .before .before .before .before .before .before .before in
+    let file = start .args .file .now in
     let done = after-read-records .read-records .ensures in (
       c .plain-outcome .ensures ∙ ap plainOutcome (done .0),
-      (done .1 .0 ∙ ap (λ (o : Outcome). readInto o (start .args .file .now) (columns (start .args .u .now) (start .args .v .now) (start .args .place .now) (start .args .low .now) (start .args .high .now) (start .args .duv .now) (start .args .steps .now) (start .args .class .now))) (done .0), refl),
+      (
+        done .1 .0 ∙ ap (λ (o : Outcome). readInto o file (columns (start .args .u .now) (start .args .v .now) (start .args .place .now) (start .args .low .now) (start .args .high .now) (start .args .duv .now) (start .args .steps .now) (start .args .class .now))) (done .0),
+        (refl, subst (λ (o : Outcome). WritesAgain o file) (done .0) (done .1 .1 .1)),
+      ),
     )
 
 pub ck-read-records-spec : {M : Type 1} → statement M

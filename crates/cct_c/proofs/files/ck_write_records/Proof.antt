@@ -1,7 +1,8 @@
 -- `ck_write_records` meets its contract: it does what `write_records` does.
-use mathlib.Core.Path.{refl, ap, _∙_}
+use mathlib.Core.Path.{refl, ap, subst, _∙_}
 use Rattle.records.specs.Columns.{columns, listOf}
 use Rattle.records.specs.Transfer.{written}
+use Rattle.records.specs.RoundTrips.{ReadsBack}
 use Rattle.records.specs.declared.transfer.Outcome.{Outcome}
 use Rattle.cct_c.specs.Plain.{plainOutcome}
 use borrow.Author.Needs.{needs}
@@ -21,9 +22,13 @@ returns : tie.Need-returns
 returns c =
     let after-write-records = c .before .before .before in
     let start = after-write-records .before .before .before .before .before .before .before .before .before .before in
+    let list = listOf (columns (start .args .u .now) (start .args .v .now) (start .args .place .now) (start .args .low .now) (start .args .high .now) (start .args .duv .now) (start .args .steps .now) (start .args .class .now)) in
     let done = after-write-records .write-records .ensures in (
       c .plain-outcome .ensures ∙ ap plainOutcome (done .0),
-      (done .1 .0 ∙ ap (λ (o : Outcome). written o (listOf (columns (start .args .u .now) (start .args .v .now) (start .args .place .now) (start .args .low .now) (start .args .high .now) (start .args .duv .now) (start .args .steps .now) (start .args .class .now))) (start .args .file .now)) (done .0), refl),
+      (
+        done .1 .0 ∙ ap (λ (o : Outcome). written o list (start .args .file .now)) (done .0),
+        (refl, subst (λ (o : Outcome). ReadsBack o list) (done .0) (done .1 .1 .1)),
+      ),
     )
 
 pub ck-write-records-spec : {M : Type 1} → statement M

@@ -17,18 +17,18 @@ Inv-loop file n u₀ v₀ place₀ low₀ high₀ duv₀ steps₀ class₀ i₀ 
 abbrev μ-loop : tie.MeasureT-loop
 μ-loop file n u₀ v₀ place₀ low₀ high₀ duv₀ steps₀ class₀ i₀ u v place low high duv steps class i = n - i
 
--- the columns as they were handed over, and as the loop has them
-abbrev lent : tie.Start Inv-loop μ-loop → Columns
-lent s = columns (s .args .u .now) (s .args .v .now) (s .args .place .now) (s .args .low .now) (s .args .high .now) (s .args .duv .now) (s .args .steps .now) (s .args .class .now)
+-- the columns as they were given, and as the loop has them
+abbrev given : tie.Start Inv-loop μ-loop → Columns
+given s = columns (s .args .u .now) (s .args .v .now) (s .args .place .now) (s .args .low .now) (s .args .high .now) (s .args .duv .now) (s .args .steps .now) (s .args .class .now)
 
 abbrev held : tie.At-loop Inv-loop μ-loop → Columns
 held s = columns (s .loop .u) (s .loop .v) (s .loop .place) (s .loop .low) (s .loop .high) (s .loop .duv) (s .loop .steps) (s .loop .class)
 
-level : (s : tie.At-loop Inv-loop μ-loop) → Level (held s) (lent (s .before .before .before .before .before .before .before .before .before))
-level s = level-read (s .before .before .before .before .before .before .before .before .before .args .file .now) (lent (s .before .before .before .before .before .before .before .before .before)) (s .loop .i) (held s) (s .loop .inv .1) (omega (arith, s .loop .inv .0, s .before .before .before .before .before .before .before .before .before .pre .0))
+level : (s : tie.At-loop Inv-loop μ-loop) → Level (held s) (given (s .before .before .before .before .before .before .before .before .before))
+level s = level-read (s .before .before .before .before .before .before .before .before .before .args .file .now) (given (s .before .before .before .before .before .before .before .before .before)) (s .loop .i) (held s) (s .loop .inv .1) (omega (arith, s .loop .inv .0, s .before .before .before .before .before .before .before .before .before .pre .0))
 
 loop-holds : tie.Need-loop-holds Inv-loop μ-loop
-loop-holds c = (omega arith, none-read (c .before .before .before .before .before .before .before .before .args .file .now) (lent (c .before .before .before .before .before .before .before .before)))
+loop-holds c = (omega arith, none-read (c .before .before .before .before .before .before .before .before .args .file .now) (given (c .before .before .before .before .before .before .before .before)))
 
 mul-record-from : tie.Need-mul-record-from Inv-loop μ-loop
 mul-record-from c = omega (arith, c .loop-test .taken, c .before .before .before .before .before .before .before .before .before .before .pre .1, c .before .before .before .before .before .before .before .before .before .before .good)
@@ -41,7 +41,7 @@ store-requires c κs =
     let in-loop = c .before .before .before .before .before .before .before .before .before in
     let at-loop = in-loop .before in
     let start = at-loop .before .before .before .before .before .before .before .before .before in
-    level-row (held at-loop) (lent start) (at-loop .loop .i) (level at-loop) (has-row (lent start) (at-loop .loop .i) (omega (arith, in-loop .loop-test .taken, start .pre .0)))
+    level-row (held at-loop) (given start) (at-loop .loop .i) (level at-loop) (has-row (given start) (at-loop .loop .i) (omega (arith, in-loop .loop-test .taken, start .pre .0)))
 
 add-i : tie.Need-add-i Inv-loop μ-loop
 add-i c =
@@ -59,7 +59,7 @@ loop-again c =
     let in-loop = after-record-from .before in
     let at-loop = in-loop .before in
     let start = at-loop .before .before .before .before .before .before .before .before .before in
-    (omega (arith, in-loop .loop-test .taken), next-read (start .args .file .now) (lent start) (at-loop .loop .i) (held at-loop) _ (after-record-from .record-from .result) (omega (arith, in-loop .loop-test .taken, start .pre .0)) (at-loop .loop .inv .1) (after-record-from .record-from .ensures) (after-store .store .ensures))
+    (omega (arith, in-loop .loop-test .taken), next-read (start .args .file .now) (given start) (at-loop .loop .i) (held at-loop) _ (after-record-from .record-from .result) (omega (arith, in-loop .loop-test .taken, start .pre .0)) (at-loop .loop .inv .1) (after-record-from .record-from .ensures) (after-store .store .ensures))
 
 same-length : tie.Need-same-length Inv-loop μ-loop
 same-length c = level (c .before) .u
@@ -90,7 +90,7 @@ returns c =
     let at-loop = c .before in
     let start = at-loop .before .before .before .before .before .before .before .before .before in
     let e : at-loop .loop .i ≡ start .args .n = omega (arith, at-loop .loop .inv .0, c .loop-test .left) in
-    at-loop .loop .inv .1 ∙ ap (λ (k : ℕ). filled (recordsIn duvWidth k (start .args .file .now)) (lent start)) e
+    at-loop .loop .inv .1 ∙ ap (λ (k : ℕ). filled (recordsIn duvWidth k (start .args .file .now)) (given start)) e
 
 pub fill-rows-spec : {M : Type 1} → statement M
 fill-rows-spec =

@@ -20,9 +20,9 @@ Inv-loop n u v place low high duv steps class out₀ i₀ out i =
 abbrev μ-loop : tie.MeasureT-loop
 μ-loop n u v place low high duv steps class out₀ i₀ out i = n - i
 
--- the columns as they were handed over
-abbrev lent : tie.Start Inv-loop μ-loop → Columns
-lent s = columns (s .args .u .now) (s .args .v .now) (s .args .place .now) (s .args .low .now) (s .args .high .now) (s .args .duv .now) (s .args .steps .now) (s .args .class .now)
+-- the columns as they were given
+abbrev given : tie.Start Inv-loop μ-loop → Columns
+given s = columns (s .args .u .now) (s .args .v .now) (s .args .place .now) (s .args .low .now) (s .args .high .now) (s .args .duv .now) (s .args .steps .now) (s .args .class .now)
 
 loop-holds : tie.Need-loop-holds Inv-loop μ-loop
 loop-holds c = (omega arith, refl, refl, empty)
@@ -31,7 +31,7 @@ row-requires : tie.Need-row-requires Inv-loop μ-loop
 row-requires c κs =
     let at-loop = c .before in
     let start = at-loop .before .before .before .before .before .before .before .before .before in
-    has-row (lent start) (at-loop .loop .i) (omega (arith, c .loop-test .taken, start .pre .0))
+    has-row (given start) (at-loop .loop .i) (omega (arith, c .loop-test .taken, start .pre .0))
 
 mul-put-record : tie.Need-mul-put-record Inv-loop μ-loop
 mul-put-record c =
@@ -59,7 +59,7 @@ loop-again c =
     let r = after-row .row .result in
     let e = after-row .row .ensures in
     let stored = after-put-record .put-record in
-    (omega (arith, in-loop .loop-test .taken), stored .kept .1 .0 ∙ l .inv .1, row-stored (lent start) (l .i) r e (start .args .out .now) (l .inv .2) (stored .ensures .0), row-narrow (lent start) (l .i) r e (l .inv .3) (stored .ensures .1))
+    (omega (arith, in-loop .loop-test .taken), stored .kept .1 .0 ∙ l .inv .1, row-stored (given start) (l .i) r e (start .args .out .now) (l .inv .2) (stored .ensures .0), row-narrow (given start) (l .i) r e (l .inv .3) (stored .ensures .1))
 
 same-length : tie.Need-same-length Inv-loop μ-loop
 same-length c = c .before .loop .inv .1
@@ -70,7 +70,7 @@ returns c =
     let start = at-loop .before .before .before .before .before .before .before .before .before in
     let l = at-loop .loop in
     let e : l .i ≡ start .args .n = omega (arith, l .inv .0, c .loop-test .left) in
-    (l .inv .2 ∙ ap (λ (k : ℕ). sets (start .args .out .now) 0 (recordsBytes duvWidth (rows (lent start) k))) e, subst (λ (k : ℕ). AllNarrow duvWidth (rows (lent start) k)) e (l .inv .3))
+    (l .inv .2 ∙ ap (λ (k : ℕ). sets (start .args .out .now) 0 (recordsBytes duvWidth (rows (given start) k))) e, subst (λ (k : ℕ). AllNarrow duvWidth (rows (given start) k)) e (l .inv .3))
 
 pub put-rows-spec : {M : Type 1} → statement M
 put-rows-spec =

@@ -10,15 +10,15 @@ use borrow.Author.Needs.{needs}
 use Rattle.records.proofs.transfer.read_records.Statement.{statement}
 use Rattle.records.proofs.transfer.read_records.Tie as tie
 
--- the columns as they were handed over
-abbrev lent : tie.Start → Columns
-lent s = columns (s .args .u .now) (s .args .v .now) (s .args .place .now) (s .args .low .now) (s .args .high .now) (s .args .duv .now) (s .args .steps .now) (s .args .class .now)
+-- the columns as they were given
+abbrev given : tie.Start → Columns
+given s = columns (s .args .u .now) (s .args .v .now) (s .args .place .now) (s .args .low .now) (s .args .high .now) (s .args .duv .now) (s .args .steps .now) (s .args .class .now)
 
 form-is : (s : tie.After-n) → formOf (s .before .before .before .before .before .before .before .before .before .before .before .args .file .now) ≡ Records (s .n .given .0 .0)
 form-is s = sym (s .before .before .check-form .ensures .0) ∙ s .n .given .1
 
-size : (s : tie.After-shortest) → s .shortest .result ≡ sizeOf (lent (s .before .before .before .before .before .before .before .before .before .before .before .before .before))
-size s = size-is (lent (s .before .before .before .before .before .before .before .before .before .before .before .before .before)) (s .shortest .result) (s .shortest .ensures)
+size : (s : tie.After-shortest) → s .shortest .result ≡ sizeOf (given (s .before .before .before .before .before .before .before .before .before .before .before .before .before))
+size s = size-is (given (s .before .before .before .before .before .before .before .before .before .before .before .before .before)) (s .shortest .result) (s .shortest .ensures)
 
 check-form-requires : tie.Need-check-form-requires
 check-form-requires c κs = search needs
@@ -37,7 +37,7 @@ returns c =
     let after-shortest = c .before in
     let after-n = after-shortest .before .before in
     let start = after-n .before .before .before .before .before .before .before .before .before .before .before in
-    (short-read (start .args .file .now) (after-n .n .given .0 .0) (sizeOf (lent start)) (form-is after-n) (too-short (size after-shortest) (c .if1 .taken)), (refl, (refl, tt)))
+    (short-read (start .args .file .now) (after-n .n .given .0 .0) (sizeOf (given start)) (form-is after-n) (too-short (size after-shortest) (c .if1 .taken)), (refl, (refl, tt)))
 
 fill-rows-requires : tie.Need-fill-rows-requires
 fill-rows-requires c κs =
@@ -45,14 +45,14 @@ fill-rows-requires c κs =
     let after-shortest = else1 .before in
     let after-n = after-shortest .before .before in
     let start = after-n .before .before .before .before .before .before .before .before .before .before .before in
-    (long-enough (size after-shortest) (else1 .if1 .left), file-holds (start .args .file .now) (after-n .n .given .0 .0) (sizeOf (lent start)) (form-is after-n))
+    (long-enough (size after-shortest) (else1 .if1 .left), file-holds (start .args .file .now) (after-n .n .given .0 .0) (sizeOf (given start)) (form-is after-n))
 
 returns-2 : tie.Need-returns-2
 returns-2 c =
     let after-refusal = c .before in
     let after-check-form = after-refusal .before .before in
     let start = after-check-form .before .before .before .before .before .before .before .before .before in
-    (bad-read (start .args .file .now) (sizeOf (lent start)) (after-refusal .refusal .given .0 .0) (sym (after-check-form .check-form .ensures .0) ∙ after-refusal .refusal .given .1), (refl, (refl, tt)))
+    (bad-read (start .args .file .now) (sizeOf (given start)) (after-refusal .refusal .given .0 .0) (sym (after-check-form .check-form .ensures .0) ∙ after-refusal .refusal .given .1), (refl, (refl, tt)))
 
 same-length : tie.Need-same-length
 same-length c = c .before .before .before .before .before .before .before .before .before .before .before .before .before .before .before .fill-rows .kept .1 .1 .0
@@ -86,7 +86,7 @@ returns-3 c =
     let after-n = after-shortest .before .before in
     let after-shared-slice-known = after-n .before .before .before .before .before .before .before .before .before .before in
     let start = after-shared-slice-known .before in
-    let room = sizeOf (lent start) in (
+    let room = sizeOf (given start) in (
       done-read (start .args .file .now) (after-n .n .given .0 .0) room (form-is after-n) (long-enough (size after-shortest) (else1 .if1 .left)),
       (
         after-fill-rows .fill-rows .ensures,

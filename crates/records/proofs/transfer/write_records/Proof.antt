@@ -7,12 +7,12 @@ use borrow.Author.Needs.{needs}
 use Rattle.records.proofs.transfer.write_records.Statement.{statement}
 use Rattle.records.proofs.transfer.write_records.Tie as tie
 
--- the columns as they were handed over
-abbrev lent : tie.Start → Columns
-lent s = columns (s .args .u .now) (s .args .v .now) (s .args .place .now) (s .args .low .now) (s .args .high .now) (s .args .duv .now) (s .args .steps .now) (s .args .class .now)
+-- the columns as they were given
+abbrev given : tie.Start → Columns
+given s = columns (s .args .u .now) (s .args .v .now) (s .args .place .now) (s .args .low .now) (s .args .high .now) (s .args .duv .now) (s .args .steps .now) (s .args .class .now)
 
-size : (s : tie.After-shortest) → s .shortest .result ≡ sizeOf (lent (s .before .before .before .before .before .before .before .before .before))
-size s = size-is (lent (s .before .before .before .before .before .before .before .before .before)) (s .shortest .result) (s .shortest .ensures)
+size : (s : tie.After-shortest) → s .shortest .result ≡ sizeOf (given (s .before .before .before .before .before .before .before .before .before))
+size s = size-is (given (s .before .before .before .before .before .before .before .before .before)) (s .shortest .result) (s .shortest .ensures)
 
 shortest-requires : tie.Need-shortest-requires
 shortest-requires c κs = search needs
@@ -21,7 +21,7 @@ returns : tie.Need-returns
 returns c =
     let after-shortest = c .before in
     let start = after-shortest .before .before .before .before .before .before .before .before .before in
-    (many-written (lent start) (after-shortest .shortest .result) (size after-shortest) (start .args .file .now) (c .if1 .taken), (refl, (refl, tt)))
+    (many-written (given start) (after-shortest .shortest .result) (size after-shortest) (start .args .file .now) (c .if1 .taken), (refl, (refl, tt)))
 
 mul-records-end : tie.Need-mul-records-end
 mul-records-end c = search needs
@@ -34,7 +34,7 @@ returns-2 c =
     let else1 = c .before in
     let after-shortest = else1 .before in
     let start = after-shortest .before .before .before .before .before .before .before .before .before in
-    (short-written (lent start) (after-shortest .shortest .result) (size after-shortest) (start .args .file .now) (else1 .if1 .left) (c .if2 .taken), (refl, (refl, tt)))
+    (short-written (given start) (after-shortest .shortest .result) (size after-shortest) (start .args .file .now) (else1 .if1 .left) (c .if2 .taken), (refl, (refl, tt)))
 
 put-rows-requires : tie.Need-put-rows-requires
 put-rows-requires c κs = (omega (arith, size (c .before .before .before)), omega (arith, c .before .if2 .left))
@@ -54,12 +54,12 @@ returns-3 c =
     let after-shortest = else1 .before in
     let start = after-shortest .before .before .before .before .before .before .before .before .before in
     let rows-put = after-put-rows .put-rows .ensures in (
-      done-written (lent start) (after-shortest .shortest .result) (size after-shortest) (start .args .file .now) (else1 .if1 .left) (else2 .if2 .left),
+      done-written (given start) (after-shortest .shortest .result) (size after-shortest) (start .args .file .now) (else1 .if1 .left) (else2 .if2 .left),
       (
-        target-written (lent start) (after-shortest .shortest .result) (size after-shortest) (start .args .file .now) (else2 .if2 .left) (rows-put .0) (after-put-trailer .put-trailer .ensures),
+        target-written (given start) (after-shortest .shortest .result) (size after-shortest) (start .args .file .now) (else2 .if2 .left) (rows-put .0) (after-put-trailer .put-trailer .ensures),
         (
           refl,
-          back-written (lent start) (after-shortest .shortest .result) (size after-shortest) (start .args .file .now) (else1 .if1 .left) (rows-put .1),
+          back-written (given start) (after-shortest .shortest .result) (size after-shortest) (start .args .file .now) (else1 .if1 .left) (rows-put .1),
         ),
       ),
     )
