@@ -11,7 +11,7 @@ TOO_MANY_RECORDS, NO_ROOM, NO_TRAILER, BAD_RECORD_LENGTH, BAD_TRAILER = range(11
 # --- The file ---------------------------------------------------------------------------------------------------------
 
 RECORD = struct.Struct("<IIHHHhBB")  # u, v; place, o, p; Duv, signed; steps; class, 255 for none
-TRAILER = struct.Struct("<HHI")  # record length; count; the bytes from the trailer's start back to the first record
+TRAILER = struct.Struct("<HHI")  # record length; count; how far before the trailer record 0 begins
 MOST_RECORDS = 3600
 
 

@@ -206,10 +206,13 @@ def check_rooms():
 
 def check_records_of_answers():
     """`Record.of` on answers of the second program's text input, with a class and without, and on an answer that no reading has."""
+    classes = set()
     for line in (line.split() for line in (ROOT / "crates/cradlekeel/stdin").read_bytes().splitlines()[-600:]):
         u, v, steps = map(int, (*line, ref.DEFAULT_STEPS)[:3])
         for record in kept(u, v, steps):
+            classes.add(record.class_index)
             assert Record.of(u, v, cradlekeel.read_micro(u, v, steps=steps)) == record, line
+    assert {0, 1, 2, 3, 255} <= classes, classes
     answer = cradlekeel.read_micro(219300, 327100)
     for field, bad in (("place", 65_536), ("low", 2**32), ("high", -1), ("duv", 0.032768), ("duv", -0.032769), ("steps", 256), ("class_index", -1)):
         fault_of(ValueError, lambda: Record.of(219300, 327100, cradlekeel.readings.Answer(**{**vars(answer), field: bad})))

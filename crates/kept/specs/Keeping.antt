@@ -17,6 +17,6 @@ recordOf u v a =
 unfoldable pub fitsRecord : Answer → Bool
 fitsRecord a = leb (a .place) 65535 && leb (a .low) 65535 && leb (a .high) 65535 && leb (natAbs (a .duv)) 32767
 
--- what is kept: the record, or nothing of an answer that is refused or does not fit
+-- what is kept: the record, or nothing of an answer that is refused or has too large a number
 unfoldable pub keep : ℕ → ℕ → Answer → Kept
 keep u v a = cond (eqb (a .refusal) 0 && fitsRecord a) (is.Kept (recordOf u v a)) is.NotKept

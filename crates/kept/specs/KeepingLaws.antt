@@ -20,7 +20,7 @@ use Rattle.cct.specs.AnswerLaws.{answer-bounded}
 use Rattle.kept.specs.Keeping.{recordOf, fitsRecord, keep}
 use Rattle.kept.specs.declared.Kept.the-variants as is
 
--- each number of the answer fits its field
+-- each number of the answer is small enough to be kept
 pub record Fits (a : Answer) : Type 0 where
   pub place : a .place ≤ 65535
   pub low : a .low ≤ 65535
@@ -57,7 +57,7 @@ within-duv n h = go (leb n 32767) refl
         let square : 32768 * 32768 ≤ n * n = mul-le-mul large large in
         absurd (omega arith)
 
--- every accepted answer fits
+-- those of every accepted answer are
 pub accepted-fits : (es : List ℕ) (c : Converted) (n : ℕ) → answer es c n .refusal ≡ 0 → Fits (answer es c n)
 accepted-fits es c n e =
     let b = answer-bounded es c n e in

@@ -4,7 +4,7 @@ use records::Record;
 ghost use mathlib.Core.Path.{_≡_};
 ghost use Rattle.kept.specs.Keeping.{fitsRecord, keep};
 
-// What is kept of an answer: its record, or nothing, where it is refused or a number of it does not fit its field.
+// What is kept of an answer: its record, or nothing, where it is refused or a number of it is too large to be kept.
 pub enum Kept {
     Kept(Record),
     NotKept,
@@ -15,7 +15,7 @@ const LARGEST_PLACE: u32 = 65535;
 
 const LARGEST_DUV: u32 = 32767;
 
-// Whether each number of the answer fits its field of a record.
+// Whether each number of the answer is small enough to be kept.
 fn fits_record(answer: Answer) -> bool
     ensures { λ r. ⌜ r ≡ fitsRecord answer ⌝ }
 {

@@ -62,7 +62,7 @@ map-append : {A B : Type 0} (f : A → B) (rs : List A) (r : A) → map f (rs ++
 map-append f [] r = refl
 map-append f (x ∷ rs) r = ap (λ (z : List _). f x ∷ z) (map-append f rs r)
 
-length-over : {A : Type 0} (xs old : List A) → length xs ≤ length old → length (over xs old) ≡ length old
+pub length-over : {A : Type 0} (xs old : List A) → length xs ≤ length old → length (over xs old) ≡ length old
 length-over xs old h = length-append xs (drop (length xs) old) ∙ omega (arith, length-drop (length xs) old)
 
 module _ {A : Type 0} (f : Record → A) (rs : List Record) (old : List A) where

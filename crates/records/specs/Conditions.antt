@@ -24,19 +24,19 @@ pub record Readable (l : List ℕ) : Type 0 where
   pub agrees : Agrees l
   pub few : countIn l ≤ mostRecords
 
--- the form of a file
+-- the form of a file is refused
 pub data FormCondition (l : List ℕ) : Refusal → Type 0 where
   no-trailer : length l < trailerLength → FormCondition l NoTrailer
   bad-length : trailerLength ≤ length l → (recordLengthIn l ≡ recordLength duvWidth → ⊥) → FormCondition l BadRecordLength
   bad-trailer : Trailed l → (Agrees l → ⊥) → FormCondition l BadTrailer
   too-many : Trailed l → Agrees l → mostRecords < countIn l → FormCondition l TooManyRecords
 
--- writing n records into a target with this room
+-- the writing of n records into a target with this room is refused
 pub data WriteCondition (n room : ℕ) : Refusal → Type 0 where
   over-most : mostRecords < n → WriteCondition n room TooManyRecords
   short-target : n ≤ mostRecords → room < fileLength duvWidth n → WriteCondition n room NoRoom
 
--- reading a file into columns with this room
+-- the reading of a file into columns with this room is refused
 pub data ReadCondition (l : List ℕ) (room : ℕ) : Refusal → Type 0 where
   bad-form : (r : Refusal) → FormCondition l r → ReadCondition l room r
   short-columns : Readable l → room < countIn l → ReadCondition l room NoRoom

@@ -25,7 +25,7 @@ numbers-fit : (d : ℕ) (r : Record) → Narrow (suc d) r → Fit (fieldWidths (
 numbers-fit d r n =
     next (n .u) (next (n .v) (next (n .place) (next (n .low) (next (n .high) (next (unsigned-fits d (r .duv) (n .duv)) (next (n .steps) (next (n .class) none)))))))
 
--- a record has the length that its widths say
+-- a record has 16 + d bytes, Duv having d
 pub length-record : (d : ℕ) (r : Record) → length (recordBytes d r) ≡ recordLength d
 unfolding recordBytes
 length-record d r =

@@ -16,7 +16,7 @@ use Rattle.records.specs.declared.files.Form.the-variants.{Refused, Reco
 abbrev pub mostRecords : ℕ
 mostRecords = 3600
 
--- the trailer has the record length in 2 bytes, the count in 2, and in 4 the bytes from its start back to the first record
+-- the trailer has three numbers: the record length, the count, and how far back from the trailer the first record begins
 abbrev pub trailerWidths : List ℕ
 trailerWidths = 2 ∷ 2 ∷ 4 ∷ []
 
@@ -74,8 +74,8 @@ sizedForm d count back n =
     (Refused BadTrailer)
 
 -- before them stands refusal 14, by the record length
-abbrev pub trailerForm : (length count back n : ℕ) → Form
-trailerForm length count back n = cond (eqb length (recordLength duvWidth)) (sizedForm duvWidth count back n) (Refused BadRecordLength)
+abbrev pub trailerForm : (bytes count back n : ℕ) → Form
+trailerForm bytes count back n = cond (eqb bytes (recordLength duvWidth)) (sizedForm duvWidth count back n) (Refused BadRecordLength)
 
 -- the form of a file: refusals 13, 14, 15 and 11, in this order, or how many records it has
 unfoldable pub formOf : List ℕ → Form

@@ -16,7 +16,7 @@ use Rattle.records.specs.ColumnsLaws.{length-list, filled-level, level-s
 use Rattle.records.specs.Transfer.{writeOutcome, written, readOutcome}
 use Rattle.records.specs.Conditions.{Readable}
 use Rattle.records.specs.RefusalLaws.{readable-form, clear-write, write-done, clear-read, read-done}
-use Rattle.records.specs.RoundTrips.{SameList, ColumnsBack, FileAgain}
+use Rattle.records.specs.RoundTrips.{SameList, ReadsBack, WritesAgain, ColumnsBack, FileAgain}
 use Rattle.records.specs.declared.fields.Record.{Record}
 use Rattle.records.specs.declared.files.Form.the-variants.{Records}
 use Rattle.records.specs.declared.transfer.Outcome.the-variants.{Done}
@@ -46,7 +46,7 @@ file-readable rs h =
       count,
     )
 
--- what is written reads back as the same list
+-- a list comes back from its file
 pub read-written : (rs : List Record) → AllNarrow duvWidth rs → length rs ≤ mostRecords → SameList rs
 unfolding fileOf
 read-written rs ns h =
@@ -91,9 +91,9 @@ first-filled rs d n e h =
     let room : n ≤ sizeOf (filled rs d) = omega (arith, same) in
     (room, first-list n (filled rs d) room ∙ ap (rows (filled rs d)) (sym e) ∙ filled-rows rs d)
 
--- what is written from columns reads back into others as the same list
-pub columns-back : (c d : Columns) (old : List ℕ) (k : ℕ) → AllNarrow duvWidth (listOf c) → writeOutcome (sizeOf c) (length old) ≡ Done k → sizeOf c ≤ sizeOf d → ColumnsBack c d old k
-columns-back c d old k ns e room =
+-- a list that is written from columns comes back in others; the hypothesis is what the writer promises
+pub columns-back : (c d : Columns) (old : List ℕ) (k : ℕ) → ReadsBack (Done k) (listOf c) → writeOutcome (sizeOf c) (length old) ≡ Done k → sizeOf c ≤ sizeOf d → ColumnsBack c d old k
+columns-back c d old k back e room =
     let rs = listOf c in
     let n = sizeOf c in
     let file = fileOf duvWidth rs in
@@ -104,7 +104,7 @@ columns-back c d old k ns e room =
     let front : take k (over file old) ≡ file = take-at file (drop (length file) old) k end in
     let sound = file-readable rs few in
     let count : countIn file ≡ n = sound .1 ∙ long in
-    let same : recordsIn duvWidth n file ≡ rs = ap (λ (m : ℕ). recordsIn duvWidth m file) (sym long) ∙ read-written rs ns few .records in
+    let same : recordsIn duvWidth n file ≡ rs = ap (λ (m : ℕ). recordsIn duvWidth m file) (sym long) ∙ back .records in
     record {
       outcome = ap (λ (l : List ℕ). readOutcome l (sizeOf d)) front ∙ clear-read file (sizeOf d) (sound .0) (omega (arith, count)) ∙ ap Done count;
       list =
@@ -112,16 +112,15 @@ columns-back c d old k ns e room =
           ∙ ap (λ (z : List Record). listOf (firstRows n (filled z d))) same ∙ first-filled rs d n long room .1;
     }
 
--- what the reader takes into columns, the writer writes again byte for byte
-pub file-again : (l : List ℕ) (d : Columns) (n : ℕ) (old : List ℕ) → Bytes l → readOutcome l (sizeOf d) ≡ Done n → length l ≤ length old → FileAgain l d n old
-file-again l d n old b e room =
+-- a file that is read into columns is written from them again; the hypothesis is what the reader promises
+pub file-again : (l : List ℕ) (d : Columns) (n : ℕ) (old : List ℕ) → WritesAgain (Done n) l → readOutcome l (sizeOf d) ≡ Done n → length l ≤ length old → FileAgain l d n old
+file-again l d n old same e room =
     let done = read-done l (sizeOf d) n e in
     let sound = done .0 in
     let count = done .1 in
     let rs = recordsIn duvWidth n l in
     let first = first-filled rs d n (length-records-in duvWidth n l) (done .2) in
     let end : fileLength duvWidth n ≡ length l = omega (arith, sound .agrees .exact, sound .agrees .back, count) in
-    let same : fileOf duvWidth rs ≡ l = ap (λ (m : ℕ). fileOf duvWidth (recordsIn duvWidth m l)) (sym count) ∙ written-read l b sound in
     record {
       size = first-size n (filled rs d) (first .0);
       outcome = clear-write n (length old) (omega (arith, sound .few, count)) (omega (arith, end)) ∙ ap Done end;

@@ -29,7 +29,7 @@ pub enum Refusal {
     NoRoom,
     // A file that is shorter than a trailer.
     NoTrailer,
-    // A file whose trailer has a record length that is not read.
+    // A file whose trailer has a record length that the reader does not take.
     BadRecordLength,
     // A file whose trailer's distance back is not that of its count, or that is not exactly its records and its trailer.
     BadTrailer,
