@@ -48,8 +48,8 @@ def refused(name, number):
 # --- What is kept -----------------------------------------------------------------------------------------------------
 
 INPUTS = {
-    "accepted, refused and unreadable lines": LINES, "a newline at the end": LINES + b"\n", "no line": b"", "a newline alone": b"\n",
-    "no accepted line": b"0 0\nx\n", "one line without a newline": b"255910 349510", "leading zeros": b"0219300 0327100 0000002\n000 1\n",
+    "accepted, refused and unreadable lines": LINES, "a newline at the end": LINES + b"\n",
+    "one line without a newline": b"255910 349510", "leading zeros": b"0219300 0327100 0000002\n000 1\n",
     "the same line often": 100 * b"219300 327100 3\n", "NUL bytes": b"219300 327100\0\n\0\n\0\0\0\n219300 327100 1\n\0",
     "carriage returns": b"219300 327100\r\n255910 349510 1\n", "numbers over their limit": b"4000001 1\n1 9999999\n219300 327100 9999999\n",
     "a long line among others": b"255910 349510 1\n" + 300_000 * b"7" + b"\n219300 327100 2\n" + 70_000 * b" " + b"\n255910 349510 2\n",
@@ -74,6 +74,25 @@ def check_kept(folder):
     check("nothing else is left", not [name for name in os.listdir(folder) if name.startswith(".")], os.listdir(folder))
 
 
+NONE_ACCEPTED = {  # inputs, each with what is said of it
+    b"": "there is no line", b"\n": "the one line has no accepted answer", b"0 0": "the one line has no accepted answer",
+    b"0 0\nx\n": "none of the 2 lines has an accepted answer", FILE: "the one line has no accepted answer",
+    b"u,v,steps\n0.2193,0.3271,2\n\n": "none of the 3 lines has an accepted answer",
+    4000 * b"183000 276000\n": "none of the 4000 lines has an accepted answer",
+}
+
+
+def check_none_accepted(folder):
+    """Where no line is accepted the answers are printed, no file is made, and one that exists stays."""
+    old = folder / "old.rec"
+    old.write_bytes(OLD)
+    for text, why in NONE_ACCEPTED.items():
+        for words in ([folder / "new.rec"], ["--replace", old]):
+            said = f"cradlekeel: {words[-1]}: {why}, so nothing is kept\n".encode()
+            expect(f"{text[:40]} {words}", save(*words, text=text), ref.answer_text(text), said, 1)
+        check("nothing is written", holds(old) == OLD and not left_alone(old), os.listdir(folder))
+
+
 def check_most(folder):
     """3,600 records are kept, whatever is refused beside them; of more, none."""
     line, path = b"219300 327100 2\n", folder / "most.rec"
@@ -82,11 +101,35 @@ def check_most(folder):
     check("their file", holds(path) == record_files.file_of(3600 * kept_of(line)), path)
     path.write_bytes(OLD)
     for count in (3601, 100_000):
-        said = refused(path, 11) + f"; {count} answers were accepted, and nothing is kept\n".encode()
         for words in ([folder / "new.rec"], ["--replace", path]):
-            told = said.replace(os.fsencode(path), os.fsencode(words[-1]))
-            expect(f"{count} accepted lines", save(*words, text=count * line), count * ref.answer_text(line), told, 1)
+            said = refused(words[-1], 11) + TOO_MANY_KEPT
+            expect(f"{count} accepted lines", save(*words, text=count * line), count * ref.answer_text(line), said, 1)
         check("nothing is written", holds(path) == OLD and not left_alone(path), os.listdir(folder))
+
+
+TOO_MANY_KEPT = b"; nothing is kept, and the answers go on\n"
+
+
+def check_most_at_once(folder):
+    """One record too many is told before the input ends, and the answers go on."""
+    line, path = b"219300 327100 2\n", folder / "most.rec"
+    answer, said = ref.answer_text(line), refused(path, 11) + TOO_MANY_KEPT
+    pipes = dict.fromkeys(("stdin", "stdout", "stderr"), subprocess.PIPE)
+    with subprocess.Popen([COMMAND, "save", path], **pipes) as process:
+        process.stdin.write(1801 * (line + b"0 0\n"))
+        process.stdin.flush()
+        first = process.stdout.read(len(1801 * (answer + b"5\n")))
+        process.stdin.write(1799 * line)
+        process.stdin.flush()
+        check("3600 answers", first + process.stdout.read(1799 * len(answer)) == 1801 * (answer + b"5\n") + 1799 * answer, first[:99])
+        os.set_blocking(process.stderr.fileno(), False)
+        check("nothing is said of 3600", not process.stderr.read(), said)
+        os.set_blocking(process.stderr.fileno(), True)
+        process.stdin.write(line)
+        process.stdin.flush()
+        check("3601 are told before the input ends", process.stderr.read(len(said)) == said, said)
+        last = process.communicate(2 * line, PATIENCE)
+        check("and only once", last == (3 * answer, b"") and process.returncode == 1 and not os.listdir(folder), (last, process.returncode))
 
 
 def check_answers_come(folder):
@@ -477,6 +520,24 @@ def check_bad_files(folder):
     expect("a closed standard input", shell('"$0" show - <&-'), b"", b"cradlekeel: -: Bad file descriptor\n", 1)
 
 
+def check_long_files(folder):
+    """What is longer than any trailer can tell is not read to its end, and the other files are shown."""
+    (folder / "good.rec").write_bytes(record_files.file_of(EXTREMES))
+    longest = record_files.file_of(65_535 * EXTREMES[:1])
+    check("the longest file of a trailer", len(longest) == 1_179_638, len(longest))
+    (folder / "longest.rec").write_bytes(longest)
+    (folder / "over.rec").write_bytes(b"\0" + longest)
+    with (folder / "huge.rec").open("wb") as huge:
+        huge.truncate(1 << 40)
+    said = refused("longest.rec", 11) + b"\n"
+    for name in ("over.rec", "huge.rec", "/dev/zero"):
+        said += f"cradlekeel: {name}: over 1,179,638 bytes, longer than any record file\n".encode()
+    ran = show("good.rec", "longest.rec", "over.rec", "huge.rec", "/dev/zero", "good.rec", cwd=folder)
+    expect("files that are too long", ran, shown_lines(2 * EXTREMES), said, 1)
+    ran = shell('"$0" show - </dev/zero', cwd=folder)
+    expect("standard input without end", ran, b"", b"cradlekeel: -: over 1,179,638 bytes, longer than any record file\n", 1)
+
+
 def check_show_output(folder):
     (folder / "day.rec").write_bytes(record_files.file_of(3600 * EXTREMES[:1]))
     no_write = b"cradlekeel: cannot write standard output: "
@@ -537,6 +598,6 @@ def check_copy(folder):
     copy.check_run("save does", 1, ["save", "--replace", path], LINES, ANSWERS)
 
 
-PARTS = (check_first_run, check_kept, check_most, check_answers_come, check_existing, check_appearing, check_links, check_places, check_modes,
-         check_permissions, check_faults, check_full_disk, check_stopped, check_input, check_output, check_program, check_missing, check_shown,
-         check_bad_files, check_show_output, check_usage, check_copy)
+PARTS = (check_first_run, check_kept, check_none_accepted, check_most, check_most_at_once, check_answers_come, check_existing, check_appearing,
+         check_links, check_places, check_modes, check_permissions, check_faults, check_full_disk, check_stopped, check_input, check_output,
+         check_program, check_missing, check_shown, check_bad_files, check_long_files, check_show_output, check_usage, check_copy)

@@ -5,6 +5,7 @@ import getopt
 import os
 import re
 
+BLOCK = 1 << 16  # bytes that are read at once
 ANSWERED, FAILED, NOT_RUN = 0, 1, 2  # exit statuses: 1 where a file could not be read or written, 2 for wrong usage or no library
 
 
@@ -76,19 +77,24 @@ def each_file(names, work):
     return status
 
 
-def bytes_of(name):
-    """All that a file holds, `-` being standard input; a read that fails is an error, so that no file is taken to end early."""
+def bytes_of(name, most=None):
+    """All that a file holds, or so many bytes of it, `-` being standard input; a read that fails is an error, so that no file is taken
+    to end early."""
     try:
         if name == "-":
-            return _read_all(0)
+            return _read_all(0, most)
         descriptor = os.open(name, os.O_RDONLY)
         try:
-            return _read_all(descriptor)
+            return _read_all(descriptor, most)
         finally:
             os.close(descriptor)
     except OSError as error:
         raise BadFile(f"{name}: {error.strerror}") from None
 
 
-def _read_all(descriptor):
-    return b"".join(iter(lambda: os.read(descriptor, 1 << 16), b""))
+def _read_all(descriptor, most):
+    blocks, length = [], 0
+    while block := os.read(descriptor, BLOCK if most is None else min(BLOCK, most - length)):
+        blocks.append(block)
+        length += len(block)
+    return b"".join(blocks)

@@ -12,16 +12,17 @@ Examples:
   cradlekeel save --replace monday.rec < lines.txt > answers.txt
 
 FILE is written once all lines are answered, whole or not at all, by way of a temporary file .cradlekeel-.. in the same folder. It
-holds at most 3600 records: of more, none is kept, and refusal 11 is said. Without an accepted line it holds none. With
---replace a link is followed, the file keeps its mode, and one that may not be written, or is no regular file, is left alone.
-The command says nothing where all went well; cradlekeel show FILE | wc -l counts what was kept.
+holds at most 3600 records: refusal 11 is said as soon as there are more, and none is kept; docs/FILES.md shows how to keep more
+in several files. Where no line is accepted FILE is not written either. With --replace a link is followed, the file keeps its
+mode, and one that may not be written, or is no regular file, is left alone. The command says nothing where all went well;
+cradlekeel show FILE | wc -l counts what was kept.
 
 The first run of bin/cradlekeel save proves and builds the program and the library (a few minutes); later ones start at once.
 
 Exit status: 0 every line is answered and FILE is written; 1 standard input could not be read, standard output or FILE not be
-written, FILE exists, or there were too many answers; 2 wrong usage, or the program or the library is missing. With 1 and 2
-FILE is as it was, unless the message says that it is written. It is so too where a reader goes away, as `head` does (141):
-answers that could not be printed are not kept.
+written, FILE exists, no line was accepted, or more than 3600 were; 2 wrong usage, or the program or the library is missing;
+141 the reader of the answers went away, as `head` does. With all but 0 FILE is as it was, unless the message says that it is
+written: what could not be printed is not kept.
 """
 
 import os
@@ -34,11 +35,10 @@ from .. import Record, Refusal, to_bytes
 from .._library import ROOT
 from ..readings import NO_CLASS
 from ..records import MOST_RECORDS
-from . import ANSWERED, BadFile, Failed, WrongUsage, options_of, write_out
+from . import ANSWERED, BLOCK, FAILED, BadFile, Failed, WrongUsage, options_of, say, write_out
 from ._whole_file import check_place, write_whole
 
 PROGRAM = ROOT / "target/cradlekeel"
-BLOCK = 1 << 16  # bytes that are read at once; what a line has beyond so many is dropped, since no line over 32 bytes can be read
 ACCEPTED = b"0 "
 
 
@@ -52,32 +52,47 @@ def run(words):
         raise WrongUsage(f"'{name}' is not the name of a file: standard output has the answers")
     to_bytes([])  # a library that is missing is told before anything is read
     check_place(name, replace)
-    write_whole(name, file_of(name, kept_answers()), replace)
+    kept = Kept(name)
+    answer_lines(kept)
+    if kept.refused:
+        return FAILED
+    if not kept.records:
+        raise BadFile(f"{name}: {none_accepted(kept.lines)}, so nothing is kept")
+    write_whole(name, to_bytes(kept.records), replace)
     return ANSWERED
 
 
-def file_of(name, kept):
-    try:
-        return to_bytes(kept.records)
-    except Refusal as refusal:
-        raise BadFile(f"{name}: {refusal}; {kept.accepted} answers were accepted, and nothing is kept") from None
+def none_accepted(lines):
+    """Why there is no record, by how many lines there are."""
+    few = ("there is no line", "the one line has no accepted answer")
+    return few[lines] if lines < len(few) else f"none of the {lines} lines has an accepted answer"
 
 
 class Kept:
-    """How many lines were accepted, and their records, up to one more than a file holds, which is enough to be refused."""
+    """How many lines there are, and the records of those that are accepted. With one more than a file holds they are refused, which
+    is said at once, and no further one is kept."""
 
-    def __init__(self):
-        self.accepted, self.records = 0, []
+    def __init__(self, name):
+        self.name, self.lines, self.records, self.refused = name, 0, [], False
 
     def take(self, line, answer):
         """Keeps a line whose answer is `0 place low high duv steps class`."""
-        if not answer.startswith(ACCEPTED):
+        self.lines += 1
+        if self.refused or not answer.startswith(ACCEPTED):
             return
-        self.accepted += 1
-        if self.accepted <= MOST_RECORDS + 1:
-            u, v = line.split()[:2]
-            *numbers, class_index = answer.removeprefix(ACCEPTED).split()
-            self.records.append(Record(int(u), int(v), *map(int, numbers), NO_CLASS if class_index == b"-" else int(class_index)))
+        u, v = line.split()[:2]
+        *numbers, class_index = answer.removeprefix(ACCEPTED).split()
+        self.records.append(Record(int(u), int(v), *map(int, numbers), NO_CLASS if class_index == b"-" else int(class_index)))
+        if len(self.records) > MOST_RECORDS:
+            self.refuse()
+
+    def refuse(self):
+        """Says why no file can have so many records."""
+        self.refused = True
+        try:
+            to_bytes(self.records)
+        except Refusal as refusal:
+            say(f"{self.name}: {refusal}; nothing is kept, and the answers go on")
 
 
 class Feeder(Thread):
@@ -113,18 +128,18 @@ def whole_lines():
     left out."""
     rest = b""
     while block := os.read(0, BLOCK):
-        lines, newline, rest = (rest[:BLOCK] + block).rpartition(b"\n")
+        lines, newline, rest = (rest[:BLOCK] + block).rpartition(b"\n")  # the rest of a line so long is dropped: over 32 bytes none can be read
         if newline:
             yield lines + newline
     if rest:
         yield rest
 
 
-def kept_answers():
+def answer_lines(kept):
     """Has the program answer standard input, prints what it prints and keeps what it accepts."""
     if not PROGRAM.is_file():
         raise OSError(f"the program is not built: there is no {PROGRAM}; bin/cradlekeel save builds it")
-    kept, rest = Kept(), b""
+    rest = b""
     pipes = {"stdin": subprocess.PIPE, "stdout": subprocess.PIPE, "stderr": subprocess.PIPE, "bufsize": 0}
     with subprocess.Popen([PROGRAM], **pipes) as process:
         feeder = Feeder(process.stdin)
@@ -139,4 +154,3 @@ def kept_answers():
         raise Failed(f"cannot read standard input: {feeder.fault.strerror}")
     if process.returncode or said or rest or feeder.lines or not feeder.ended:
         raise Failed(f"the program has not answered every line; its exit status is {process.returncode} {said.decode()}".rstrip())
-    return kept

@@ -21,6 +21,8 @@ error with the number of its refusal and the reason, and the others are still sh
   refusal 13: the file is shorter than 8 bytes, 14: it does not tell at its end that a record has 18 bytes,
   15: its length does not fit its count of records, 11: it has more than 3600 records
 
+What is over 1,179,638 bytes has no number: no trailer can tell of so many records, and it is not read to its end.
+
 The first run of bin/cradlekeel show proves and builds the library (make lib, one to two minutes); later ones start at once.
 
 Exit status: 0 every file is shown; 1 a file could not be read, or standard output not be written; 2 wrong usage, or the
@@ -29,7 +31,10 @@ library is missing.
 
 from .. import Refusal, read_records
 from ..readings import KELVIN_PLACES, NO_CLASS
+from ..records import RECORD_BYTES, TRAILER_BYTES
 from . import BadFile, WrongUsage, bytes_of, each_file, options_of, write_out
+
+LONGEST = 65_535 * RECORD_BYTES + TRAILER_BYTES  # bytes: a trailer can tell of no more records
 
 
 def run(words):
@@ -43,7 +48,9 @@ def run(words):
 
 def records_of(name):
     """The records of a file."""
-    held = bytes_of(name)
+    held = bytes_of(name, LONGEST + 1)
+    if len(held) > LONGEST:
+        raise BadFile(f"{name}: over {LONGEST:,} bytes, longer than any record file")
     try:
         return read_records(held)
     except Refusal as refusal:
