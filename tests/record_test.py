@@ -59,11 +59,37 @@ def check_other_arguments():
     fault_of(TypeError, lambda: cradlekeel.record_at(bytes(44), 0.5))
 
 
+def check_names_for_files():
+    """The name of a file in place of its bytes is told as that."""
+    for call in (cradlekeel.read_records, cradlekeel.check_file, lambda file: cradlekeel.record_at(file, 0)):
+        for file, named in (("day.rec", "str"), (Path("day.rec"), "PosixPath"), ([18, 0], "list"), (None, "NoneType")):
+            fault = str(fault_of(TypeError, lambda: call(file)))
+            assert 'Path("day.rec").read_bytes()' in fault and fault.endswith(f"not by a {named}"), fault
+
+
 def check_record_values():
     """A record is equal by value and cannot be changed."""
     assert GOOD == Record(*GOOD) and hash(GOOD) == hash(Record(*GOOD)) and GOOD != GOOD._replace(steps=3)
     assert Record._fields == tuple(LIMITS) and "class_index=2" in repr(GOOD)
     fault_of(AttributeError, lambda: setattr(GOOD, "u", 1))
+    assert GOOD.kelvin == 103_360_000 / 23112 and GOOD._replace(place=0).kelvin is None
+    for field, (_, largest) in LIMITS.items():
+        bits = (largest + 1).bit_length() - (field != "duv")
+        assert f"; {bits} bits" in getattr(Record, field).__doc__, f"the text of {field} that help() shows"
+
+
+def check_let_go():
+    """What a function raises holds no bytearray: it can change its length while the exception is kept."""
+    held, calls = bytearray(99), (
+        lambda: cradlekeel.record_at(held, 9), lambda: cradlekeel.record_at(held, "1"), lambda: cradlekeel.record_at(held, 0),
+        lambda: cradlekeel.check_file(held), lambda: cradlekeel.read_records(held), lambda: cradlekeel.read_records(held, -1),
+        lambda: cradlekeel.write_records(6 * [GOOD], held), lambda: cradlekeel.write_records([GOOD._replace(u=-1)], held))
+    for call in calls:
+        try:
+            call()
+        except (ValueError, TypeError, IndexError, OSError):  # Refusal is a ValueError, and a library that is missing an OSError
+            held.append(0)
+            held.pop()
 
 
 # --- docs/FILES.md ----------------------------------------------------------------------------------------------------
@@ -104,7 +130,9 @@ def self_test():
     """What needs no library."""
     check_records_that_do_not_fit()
     check_other_arguments()
+    check_names_for_files()
     check_record_values()
+    check_let_go()
     check_page()
 
 
@@ -285,6 +313,7 @@ def run():
     count = run_vectors()
     check_page_by_library()
     check_bytes_like()
+    check_let_go()
     check_rooms()
     check_records_of_answers()
     check_example()

@@ -21,10 +21,10 @@ REASONS = {
     9: "the samples, x_bar, y_bar and z_bar must be equally long, from 1 to 471 numbers each",
     10: "a sample is over 16,777,215, or a number of x_bar, y_bar or z_bar is over 4,000,000",
     11: "there are more than 3,600 records, the most that a file holds",
-    12: "the target is too small for it",
+    12: "the room is too small for the file, or for its records",
     13: "the file is too short to be a record file: it has fewer than 8 bytes",
-    14: "the file is no record file, or was cut short: its last 8 bytes do not begin with the record length 18",
-    15: "the file was cut short or is damaged: its length, or the way back in its last 8 bytes, does not fit its count of records",
+    14: "the file is no record file, was cut short or has something appended: its last 8 bytes do not begin with the record length 18",
+    15: "the file was cut short, damaged or joined to another: its length, or the distance in its last 8 bytes, does not fit its count of records",
 }
 """What each refusal means. Of a reading, 9 and 10 are tested between 1 and 2, the others in the order of their numbers. 11 to 15 are
 about record files: writing tests 11 and 12, reading 13, 14, 15, 11 and 12, in this order."""

@@ -1,4 +1,7 @@
-"""Record files: readings kept with their answers. docs/FILES.md has the format byte by byte."""
+"""Record files: readings kept with their answers. docs/FILES.md has the format byte by byte.
+
+The functions work on memory: they take and give the bytes of a file and do no input or output. `Path.read_bytes` and
+`Path.write_bytes` do."""
 
 import ctypes
 import operator
@@ -6,7 +9,7 @@ from array import array
 from typing import NamedTuple
 
 from ._library import StoredRecord, WholeAnswer, c_function, u32, whole
-from .readings import NO_CLASS, Refusal
+from .readings import KELVIN_PLACES, NO_CLASS, Refusal
 
 MOST_RECORDS = 3600
 RECORD_BYTES, TRAILER_BYTES = 18, 8
@@ -16,23 +19,24 @@ _FIELDS = StoredRecord._fields_  # the name and the type in C of each
 class Record(NamedTuple):
     """A reading and its answer in whole numbers, as a file keeps them; a record may hold any number that fits its field.
 
-    >>> Record(219300, 327100, 23112, 21892, 23866, -2331, 2, 2).duv
-    -2331
+    >>> record = Record(219300, 327100, 23112, 21892, 23866, -2331, 2, 2)
+    >>> record.duv, round(record.kelvin, 1)
+    (-2331, 4472.1)
     """
 
     u: int
-    """CIE 1960 u of the reading in millionths; 32 bits, as v."""
     v: int
     place: int
-    """The position on the locus; 16 bits, as low and high, the ends of its range."""
     low: int
     high: int
     duv: int
-    """In millionths; 16 bits, signed."""
     steps: int
-    """8 bits, as class_index."""
     class_index: int
-    """255 for no class."""
+
+    @property
+    def kelvin(self):
+        """The temperature at the place, 103,360,000 / place; None for a place of 0, which no answer has."""
+        return KELVIN_PLACES / self.place if self.place else None
 
     @classmethod
     def of(cls, u, v, answer):
@@ -53,6 +57,14 @@ class Record(NamedTuple):
         return cls(*_numbers(found.record))
 
 
+for _name, _text in {
+        "u": "CIE 1960 u of the reading in millionths; 32 bits", "v": "CIE 1960 v of the reading in millionths; 32 bits",
+        "place": "the position on the locus in units of 25/2584 mired; 16 bits", "low": "the hottest end of the range, as a position; 16 bits",
+        "high": "the coolest end of the range, as a position; 16 bits", "duv": "Duv in millionths; 16 bits, signed",
+        "steps": "the steps of the search; 8 bits", "class_index": "the class, counted from 0, or 255 for none; 8 bits"}.items():
+    getattr(Record, _name).__doc__ = _text  # what help(Record) shows
+
+
 def write_records(records, target):
     """Writes a file of the records to the front of a bytearray and returns how many bytes that were, 18 for each record and 8. The
     rest of the bytearray keeps what it held, and all of it where the records are refused.
@@ -65,7 +77,7 @@ def write_records(records, target):
     >>> write_records([Record(219300, 327100, 23112, 21892, 23866, -2331, 2, 2)], target)
     Traceback (most recent call last):
         ...
-    cradlekeel.Refusal: refusal 12: the target is too small for it
+    cradlekeel.Refusal: refusal 12: the room is too small for the file, or for its records
     >>> write_records([Record(219300, 327100, 23112, 21892, 23866, -40000, 2, 2)], target)
     Traceback (most recent call last):
         ...
@@ -90,18 +102,22 @@ def to_bytes(records):
 
 
 def read_records(file, room=MOST_RECORDS):
-    """The records of a file, which is bytes or any other bytes-like object; refused with 12 where they are more than `room`.
+    """The records of a file, given by its bytes or any other bytes-like object; refused with 12 where they are more than `room`.
 
     >>> read_records(bytes.fromhex("a458 0300 bcfd 0400 485a 8455 3a5d e5f6 0202 1200 0100 1200 0000"))
     [Record(u=219300, v=327100, place=23112, low=21892, high=23866, duv=-2331, steps=2, class_index=2)]
     >>> read_records(b"u,v,steps\\n")
     Traceback (most recent call last):
         ...
-    cradlekeel.Refusal: refusal 14: the file is no record file, or was cut short: its last 8 bytes do not begin with the record length 18
+    cradlekeel.Refusal: refusal 14: the file is no record file, was cut short or has something appended: its last 8 bytes do not begin with the record length 18
+    >>> read_records("day.rec")
+    Traceback (most recent call last):
+        ...
+    TypeError: a file is given by its bytes, as Path("day.rec").read_bytes() has them, not by a str
     """
     room = min(whole("room", room, ctypes.c_size_t), MOST_RECORDS)  # no file that is read has more
     columns = [(kind * room)() for _, kind in _FIELDS]
-    count = _count(c_function("ck_read_records")(*_as_file(file), *(part for column in columns for part in (column, room))))
+    count = _count(_asked("ck_read_records", file, *(part for column in columns for part in (column, room))))
     return list(map(Record._make, zip(*(column[:count] for column in columns))))
 
 
@@ -115,7 +131,7 @@ def check_file(file):
         ...
     cradlekeel.Refusal: refusal 13: the file is too short to be a record file: it has fewer than 8 bytes
     """
-    return _count(c_function("ck_check_file")(*_as_file(file)))
+    return _count(_asked("ck_check_file", file))
 
 
 def record_at(file, index):
@@ -128,10 +144,9 @@ def record_at(file, index):
         ...
     IndexError: the bytes have no whole record 1
     """
-    held, length = _as_file(file)
-    if not 0 <= operator.index(index) < length // RECORD_BYTES:
+    if not 0 <= operator.index(index) < _view(file).nbytes // RECORD_BYTES:
         raise IndexError(f"the bytes have no whole record {index}")
-    return Record(*_numbers(c_function("ck_record_at")(held, length, index)))
+    return Record(*_numbers(_asked("ck_record_at", file, index)))
 
 
 def _numbers(stored):
@@ -146,10 +161,28 @@ def _count(done):
     return done.count
 
 
+def _asked(name, file, *given):
+    """What the C function `name` returns for a file. The bytes are looked at before the library is asked for, and let go whatever
+    happens: an exception would hold them with this call, and a bytearray that is held cannot change its length."""
+    held, length = _as_file(file)
+    try:
+        return c_function(name)(held, length, *given)
+    finally:
+        del held
+
+
+def _view(file):
+    try:
+        return memoryview(file)
+    except TypeError:
+        named = type(file).__name__
+        raise TypeError(f'a file is given by its bytes, as Path("day.rec").read_bytes() has them, not by a {named}') from None
+
+
 def _as_file(file):
     """Bytes as C takes them, where they stand and how many they are; copied only where they are neither bytes nor can be written."""
     if not isinstance(file, bytes):
-        view = memoryview(file)
+        view = _view(file)
         if view.c_contiguous and not view.readonly:
             return (ctypes.c_uint8 * view.nbytes).from_buffer(view), view.nbytes
         file = bytes(view)

@@ -30,7 +30,7 @@ library is missing.
 """
 
 from .. import Refusal, read_records
-from ..readings import KELVIN_PLACES, NO_CLASS
+from ..readings import NO_CLASS
 from ..records import RECORD_BYTES, TRAILER_BYTES
 from . import BadFile, WrongUsage, bytes_of, each_file, options_of, write_out
 
@@ -63,5 +63,4 @@ def line_of(record):
 
 
 def with_kelvin(record):
-    kelvin = f"{KELVIN_PLACES / record.place:.1f}" if record.place else "-"  # a file may hold any number
-    return f"{line_of(record)} {kelvin}"
+    return f"{line_of(record)} {f'{record.kelvin:.1f}' if record.place else '-'}"  # a file may hold any number
