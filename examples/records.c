@@ -13,10 +13,10 @@ static const uint32_t edges[] = {1600, 2500, 3500, 5000, 20001}; /* class 0 is 1
 
 static const char *const reasons[] = {
     [CK_TOO_MANY_RECORDS] = "more than 3,600 records",
-    [CK_NO_ROOM] = "no room for them",
+    [CK_NO_ROOM] = "no room for the file or its records",
     [CK_NO_TRAILER] = "the file is shorter than 8 bytes",
-    [CK_BAD_RECORD_LENGTH] = "no record file, or cut short",
-    [CK_BAD_TRAILER] = "cut short or damaged",
+    [CK_BAD_RECORD_LENGTH] = "no record file, cut short, or something is appended",
+    [CK_BAD_TRAILER] = "cut short, damaged, or joined to another",
 };
 
 /* One array for each field, as the library takes them. */
@@ -96,8 +96,15 @@ static int show(const char *path)
 
 int main(int argc, char **argv)
 {
-    if (argc == 3 && strcmp(argv[1], "save") == 0) return save(argv[2]);
-    if (argc == 3 && strcmp(argv[1], "show") == 0) return show(argv[2]);
-    fprintf(stderr, "usage: records save FILE, or records show FILE\n");
-    return 2;
+    int is_save = argc == 3 && strcmp(argv[1], "save") == 0;
+    if (!is_save && !(argc == 3 && strcmp(argv[1], "show") == 0)) {
+        fprintf(stderr, "usage: records save FILE, or records show FILE\n");
+        return 2;
+    }
+    int status = is_save ? save(argv[2]) : show(argv[2]);
+    if (fflush(stdout) != 0 || ferror(stdout)) { /* of any print before, too */
+        fprintf(stderr, "records: standard output could not be written\n");
+        return 1;
+    }
+    return status;
 }

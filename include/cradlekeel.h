@@ -132,7 +132,8 @@ ck_answer ck_read_samples(const uint32_t *samples, size_t sample_count, const ui
  * A record file keeps readings with their answers: 18 bytes for each record, its fields in the order of ck_record, and then a
  * trailer of 8 bytes: the record length (16 bits), the count of records (16 bits), and the distance (32 bits), which is how many
  * bytes before the trailer the first record begins. All numbers are little-endian; docs/FILES.md shows a file byte by byte.
- * A record may hold any number that fits its field: these functions check the form of a file, not what its records say.
+ * A record may hold any number that fits its field: these functions check the form of a file, not what its records say. They
+ * work on memory and do no input or output: a `file` here is the bytes of one, which the caller reads and writes.
  * examples/records.c is a whole program. */
 
 enum { CK_RECORD_BYTES = 18, CK_TRAILER_BYTES = 8, CK_MOST_RECORDS = 3600 };
@@ -184,7 +185,8 @@ typedef struct ck_kept {
 } ck_kept;
 
 /* The record of a reading u, v in millionths and its answer, the member `whole` where that is a ck_answer. `kept` is 0 where the
- * answer is a refusal, or has a place over 65,535 or a Duv over 32,767 either side of 0; no answer of this library has one. */
+ * answer is a refusal, or has a place, low or high over 65,535 or a Duv over 32,767 either side of 0; no answer of this library
+ * has one. */
 ck_kept ck_record_of(uint32_t u, uint32_t v, ck_whole answer);
 
 #ifdef __cplusplus

@@ -209,10 +209,10 @@ def check_places(folder):
     (folder / "file").write_bytes(OLD)
     device = "it is a device or a pipe, which is not replaced"
     for words, said in (
-            (["none/day.rec"], "No such file or directory"), (["--replace", "none/day.rec"], "No such file or directory"),
+            (["none/day.rec"], "there is no folder none"), (["--replace", "none/day.rec"], f"there is no folder {folder.resolve()}/none"),
             (["file/day.rec"], "Not a directory"), (["sub"], "it is a folder"), (["--replace", "sub"], "it is a folder"),
             (["sub/"], "it is a folder"), (["--replace", "new/"], "it is a folder"), (["--replace", "."], "it is a folder"),
-            (["--replace", "pipe"], device), (["pipe"], "the file exists; --replace replaces it"),
+            (["--replace", "pipe"], device), (["pipe"], device), (["/dev/null"], device), (["--replace", "/dev/null"], device),
             (["x" * 256], "File name too long")):
         expect(f"{words}", save(*words, cwd=folder), b"", f"cradlekeel: {words[-1]}: {said}\n".encode(), 1)
     check("nothing is made", sorted(os.listdir(folder)) == ["file", "pipe", "sub"] and not os.listdir(folder / "sub"), os.listdir(folder))
@@ -445,7 +445,7 @@ def check_program(folder):
     for what, text in PROGRAMS.items():
         program.write_text(f"#!/bin/sh\n{text}\n")
         program.chmod(0o755)
-        ran = subprocess.run(words, input=5000 * (LINES + b"\n"), **options)  # more than a pipe holds
+        ran = subprocess.run(words, input=LINES + b"\n" + 100_000 * b"0 0\n", **options)  # more than a pipe holds
         told = ran.stderr.startswith((NOT_ALL, TOO_MANY)) and ran.stderr.count(b"\n") == 1
         check(what, told and ran.returncode == 1 and not path.exists(), ran)
     program.write_text("#!/bin/sh\n")

@@ -285,6 +285,9 @@ def check_example():
         assert (ran.stdout, ran.stderr, ran.returncode) == (told, "", 0) and path.read_bytes() == record_files.file_of(lamp_records()), ran
         ran = run_example("show", path)
         assert (ran.stdout, ran.stderr, ran.returncode) == ("".join(map(shown_record, lamp_records())), "", 0), ran
+        with open("/dev/full", "wb") as full:
+            ran = subprocess.run([EXAMPLE, "show", path], stdout=full, stderr=subprocess.PIPE, text=True)
+        assert (ran.returncode, ran.stderr) == (1, "records: standard output could not be written\n"), ran
         path.write_bytes(b"kept")
         ran = run_example("save", path)
         assert ran.returncode == 1 and "File exists" in ran.stderr and path.read_bytes() == b"kept", ran

@@ -16,14 +16,15 @@ handed over: 0.3127 is answered as 0.312700003385543823..., 0.99999999 becomes 1
 exact. `read_micro` and `read_samples` take whole numbers and round nothing; `read_spectrum` makes whole numbers of a meter's
 values, which is tested and not proved.
 
-`to_bytes` and `read_records` make a file of records, readings with their answers, and read it:
+`to_bytes` and `read_records` make a file of records, readings with their answers, and read it, in memory: they take and give its
+bytes and do no input or output.
 
 >>> record = cradlekeel.Record.of(219300, 327100, cradlekeel.read_micro(219300, 327100, steps=2))
 >>> cradlekeel.read_records(cradlekeel.to_bytes([record])) == [record]
 True
 
 A reading that has no answer, and a file that cannot be read, raise `Refusal`. A whole number that does not fit its 32 bits, or its
-field of a record, raises `ValueError`. The library writes to nothing that it is given but the target of `write_records`.
+field of a record, raises `ValueError`, and what is no whole number there `TypeError`. The library writes to nothing that it is given but the target of `write_records`.
 """
 
 from ._library import LibraryMissing

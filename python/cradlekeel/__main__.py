@@ -31,7 +31,8 @@ def main(words):
             write_out(usage())
             return ANSWERED
         if name not in COMMANDS:
-            raise WrongUsage(f"'{name}' is not a command" if words else "no command is named")
+            there_are = f"there are {', '.join(COMMANDS)}"
+            raise WrongUsage(f"'{name}' is not a command: {there_are}" if words else f"no command is named: {there_are}")
         return run_command(importlib.import_module(f".commands.{name}", __package__), words[1:])
     except WrongUsage as error:
         say(f"{error}; see cradlekeel {name + ' ' if name in COMMANDS else ''}--help")

@@ -26,7 +26,8 @@ def check_place(name, replace):
             check_old(name, old, replace)
         elif os.path.lexists(name) and not replace:  # a link to nothing
             raise BadFile(f"{name}: {EXISTS}")
-        os.stat(folder)
+        if found_at(folder) is None:
+            raise BadFile(f"{name}: there is no folder {folder}")
         if not os.access(folder, os.W_OK | os.X_OK):
             raise BadFile(f"{name}: no file can be made in its folder")
 
@@ -35,10 +36,10 @@ def check_old(name, old, replace):
     """Whether a file that exists may be replaced: a file of its own, which the caller may write, and not one that is in use here."""
     if stat.S_ISDIR(old.st_mode):
         raise BadFile(f"{name}: it is a folder")
-    if not replace:
-        raise BadFile(f"{name}: {EXISTS}")
     if not stat.S_ISREG(old.st_mode):
         raise BadFile(f"{name}: it is a device or a pipe, which is not replaced")
+    if not replace:
+        raise BadFile(f"{name}: {EXISTS}")
     for descriptor, stream in ((0, "input"), (1, "output")):
         with suppress(OSError):
             if os.path.samestat(os.fstat(descriptor), old):
