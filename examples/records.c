@@ -15,8 +15,8 @@ static const char *const reasons[] = {
     [CK_TOO_MANY_RECORDS] = "more than 3,600 records",
     [CK_NO_ROOM] = "no room for the file or its records",
     [CK_NO_TRAILER] = "the file is shorter than 8 bytes",
-    [CK_BAD_RECORD_LENGTH] = "no record file, cut short, or something is appended",
-    [CK_BAD_TRAILER] = "cut short, damaged, or joined to another",
+    [CK_BAD_RECORD_LENGTH] = "no record file, or cut short or added to",
+    [CK_BAD_TRAILER] = "cut short, damaged or joined to another",
 };
 
 /* One array for each field, as the library takes them. */

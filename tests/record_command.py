@@ -132,6 +132,20 @@ def check_most_at_once(folder):
         check("and only once", last == (3 * answer, b"") and process.returncode == 1 and not os.listdir(folder), (last, process.returncode))
 
 
+JOIN = '"$0" show {} > lines.txt && cut -d" " -f1,2,7 lines.txt | "$0" save --replace both.rec > answers.txt'  # as docs/FILES.md has it
+
+
+def check_joined(folder):
+    """Two files become one, and where one of them is bad what stood there stays."""
+    for name, file in (("a.rec", FILE), ("b.rec", file_of(b"255910 349510 3")), ("cut.rec", FILE[:40]), ("both.rec", OLD)):
+        (folder / name).write_bytes(file)
+    for names in ("a.rec cut.rec", "cut.rec a.rec", "a.rec none.rec"):
+        check(f"{names}: told", shell(JOIN.format(names), cwd=folder).returncode == 1, names)
+        check(f"{names}: nothing is lost", holds(folder / "both.rec") == OLD, holds(folder / "both.rec"))
+    expect("two good files", shell(JOIN.format("a.rec b.rec"), cwd=folder))
+    check("are joined", holds(folder / "both.rec") == file_of(LINES + b"\n255910 349510 3"), holds(folder / "both.rec"))
+
+
 def check_answers_come(folder):
     """An answer comes before the input ends, and the file after it."""
     path = folder / "slow.rec"
@@ -572,6 +586,9 @@ def check_usage(folder):
             ran = ask(*words, cwd=folder)
             told = ran.stderr.endswith(f"; see cradlekeel {name} --help\n".encode()) and ran.stderr.count(b"\n") == 1
             check(f"{name} {words} is wrong usage", told and not ran.stdout and ran.returncode == 2, ran)
+    for words, fault in (([], b"no command is named"), (["saev", "a"], b"'saev' is not a command")):
+        ran = run(["-B", "-m", "cradlekeel", *words], command=sys.executable, env={**os.environ, "PYTHONPATH": str(ROOT / "python")}, cwd=folder)
+        expect(f"a command {words}", ran, b"", b"cradlekeel: " + fault + b": there are save, show, spectrum; see cradlekeel --help\n", 2)
     check("nothing is made", not os.listdir(folder), os.listdir(folder))
 
 
@@ -598,6 +615,6 @@ def check_copy(folder):
     copy.check_run("save does", 1, ["save", "--replace", path], LINES, ANSWERS)
 
 
-PARTS = (check_first_run, check_kept, check_none_accepted, check_most, check_most_at_once, check_answers_come, check_existing, check_appearing,
-         check_links, check_places, check_modes, check_permissions, check_faults, check_full_disk, check_stopped, check_input, check_output,
+PARTS = (check_first_run, check_kept, check_none_accepted, check_most, check_most_at_once, check_joined, check_answers_come, check_existing,
+         check_appearing, check_links, check_places, check_modes, check_permissions, check_faults, check_full_disk, check_stopped, check_input, check_output,
          check_program, check_missing, check_shown, check_bad_files, check_long_files, check_show_output, check_usage, check_copy)

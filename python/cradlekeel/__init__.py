@@ -23,8 +23,9 @@ bytes and do no input or output.
 >>> cradlekeel.read_records(cradlekeel.to_bytes([record])) == [record]
 True
 
-A reading that has no answer, and a file that cannot be read, raise `Refusal`. A whole number that does not fit its 32 bits, or its
-field of a record, raises `ValueError`, and what is no whole number there `TypeError`. The library writes to nothing that it is given but the target of `write_records`.
+A reading that has no answer, and a file that cannot be read, raise `Refusal`. A whole number that does not fit its 32 bits, or
+its field of a record, raises `ValueError`, and what is no whole number there `TypeError`. The library writes to nothing that it
+is given but the target of `write_records`.
 """
 
 from ._library import LibraryMissing

@@ -31,8 +31,8 @@ def main(words):
             write_out(usage())
             return ANSWERED
         if name not in COMMANDS:
-            there_are = f"there are {', '.join(COMMANDS)}"
-            raise WrongUsage(f"'{name}' is not a command: {there_are}" if words else f"no command is named: {there_are}")
+            fault = f"'{name}' is not a command" if words else "no command is named"
+            raise WrongUsage(f"{fault}: there are {', '.join(COMMANDS)}")
         return run_command(importlib.import_module(f".commands.{name}", __package__), words[1:])
     except WrongUsage as error:
         say(f"{error}; see cradlekeel {name + ' ' if name in COMMANDS else ''}--help")

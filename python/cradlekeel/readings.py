@@ -23,7 +23,7 @@ REASONS = {
     11: "there are more than 3,600 records, the most that a file holds",
     12: "the room is too small for the file, or for its records",
     13: "the file is too short to be a record file: it has fewer than 8 bytes",
-    14: "the file is no record file, was cut short or has something appended: its last 8 bytes do not begin with the record length 18",
+    14: "the file is no record file, or was cut short or added to: its last 8 bytes do not begin with the record length 18",
     15: "the file was cut short, damaged or joined to another: its length, or the distance in its last 8 bytes, does not fit its count of records",
 }
 """What each refusal means. Of a reading, 9 and 10 are tested between 1 and 2, the others in the order of their numbers. 11 to 15 are

@@ -109,7 +109,7 @@ def read_records(file, room=MOST_RECORDS):
     >>> read_records(b"u,v,steps\\n")
     Traceback (most recent call last):
         ...
-    cradlekeel.Refusal: refusal 14: the file is no record file, was cut short or has something appended: its last 8 bytes do not begin with the record length 18
+    cradlekeel.Refusal: refusal 14: the file is no record file, or was cut short or added to: its last 8 bytes do not begin with the record length 18
     >>> read_records("day.rec")
     Traceback (most recent call last):
         ...

@@ -125,10 +125,10 @@ class Feeder(Thread):
 
 def whole_lines():
     """Standard input in blocks of whole lines as they come, and the last line without its newline: a line whose end cannot be read is
-    left out."""
+    left out. What a line has beyond a block is dropped, since no line over 32 bytes can be read."""
     rest = b""
     while block := os.read(0, BLOCK):
-        lines, newline, rest = (rest[:BLOCK] + block).rpartition(b"\n")  # the rest of a line so long is dropped: over 32 bytes none can be read
+        lines, newline, rest = (rest[:BLOCK] + block).rpartition(b"\n")
         if newline:
             yield lines + newline
     if rest:

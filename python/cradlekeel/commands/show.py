@@ -16,12 +16,12 @@ Examples:
   cradlekeel show monday.rec | cut -d' ' -f1-2 | cradlekeel      (the readings, answered again at 14 steps)
 
 The class edges are not in the file: those of cradlekeel save are 1600, 2500, 3500, 5000 and 20001 K, and a file of another
-program may have been made with others. Only the form of a file is checked: what its records say is printed as it is, and damage
-inside a record is not noticed. A file that cannot be read is named on standard
-error with the number of its refusal and the reason, and the others are still shown:
+program may have been made with others. Only the form of a file is checked: what its records say is printed as it is, and
+damage inside a record is not noticed. A file that cannot be read is named on standard error with the number of its refusal
+and the reason, and the others are still shown:
 
   refusal 13: the file is shorter than 8 bytes, 14: it does not tell at its end that a record has 18 bytes,
-  15: its length does not fit its count of records, 11: it has more than 3600 records
+  15: its length, or the distance at its end, does not fit its count of records, 11: it has more than 3600 records
 
 What is over 1,179,638 bytes has no number: no trailer can tell of so many records, and it is not read to its end.
 
