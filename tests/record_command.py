@@ -616,5 +616,6 @@ def check_copy(folder):
 
 
 PARTS = (check_first_run, check_kept, check_none_accepted, check_most, check_most_at_once, check_joined, check_answers_come, check_existing,
-         check_appearing, check_links, check_places, check_modes, check_permissions, check_faults, check_full_disk, check_stopped, check_input, check_output,
-         check_program, check_missing, check_shown, check_bad_files, check_long_files, check_show_output, check_usage, check_copy)
+         check_appearing, check_links, check_places, check_modes, check_permissions, check_faults, check_full_disk, check_stopped,
+         check_input, check_output, check_program, check_missing, check_shown, check_bad_files, check_long_files, check_show_output,
+         check_usage, check_copy)
