@@ -238,7 +238,7 @@ def check_records_of_answers():
     for line in (line.split() for line in (ROOT / "crates/cradlekeel/stdin").read_bytes().splitlines()[-600:]):
         u, v, steps = map(int, (*line, ref.DEFAULT_STEPS)[:3])
         for record in kept(u, v, steps):
-            classes.add(record.class_index)
+            classes.add(record[7])
             assert Record.of(u, v, cradlekeel.read_micro(u, v, steps=steps)) == record, line
     assert {0, 1, 2, 3, 255} <= classes, classes
     answer = cradlekeel.read_micro(219300, 327100)
