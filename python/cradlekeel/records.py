@@ -53,7 +53,7 @@ class Record(NamedTuple):
         given = {name: whole(f"the answer's {name}", number, kinds[name]) for name, number in numbers.items()}
         found = c_function("ck_record_of")(u32("u", u), u32("v", v), WholeAnswer(**given))
         if not found.kept:
-            raise ValueError(f"{answer!r} has a number that does not fit its field of a record")
+            raise ValueError(f"{answer!r} has a number that a record does not keep")
         return cls(*_numbers(found.record))
 
 
