@@ -1,5 +1,5 @@
-"""The rules of document 01, and of requests No. 1 to 3 of document 02, in exact whole numbers and fractions: the independent
-second program.
+"""The rules of document 01, and of requests No. 1 to 3 and 5 of document 02, in exact whole numbers and fractions: the
+independent second program.
 
 It follows the documents' own words, letters and sections and shares no code with the crates. Where a rule can be said in
 another way than there, it is: the locus goes by mired and by Newton's divided differences, the bracket by its three cases, the
@@ -334,9 +334,14 @@ def found_after(reading, steps):
     return found_at(reading, stages(reading, steps)[-1])
 
 
+def root(n):
+    """The largest whole d with d² no greater than n."""
+    return isqrt(n)
+
+
 def signed_duv(reading, place):
-    """The largest whole root of the distance, below zero where the reading's v is below the point's."""
-    d = isqrt(distance_at(reading, place))
+    """The root of the distance, below zero where the reading's v is below the point's."""
+    d = root(distance_at(reading, place))
     return d if reading[1] >= locus_point(place)[1] else -d
 
 

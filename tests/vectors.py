@@ -6,10 +6,11 @@ import convert_cases
 import core_cases
 import record_cases
 import record_lines
+import root_cases
 import sample_cases
 import sample_lists
 
-SECTIONS = (convert_cases, core_cases, answer_cases, sample_cases, below_zero_cases, record_cases)
+SECTIONS = (convert_cases, core_cases, answer_cases, sample_cases, below_zero_cases, record_cases, root_cases)
 CORE_KINDS = ("point", "points", "entry", "search", "class", "edges")
 
 
@@ -44,4 +45,6 @@ def expected(line, held):
         return sample_cases.expected(line, held)
     if kind in CORE_KINDS:
         return core_cases.expected(line)
+    if kind in root_cases.KINDS:
+        return root_cases.expected(line)
     return (answer_cases if kind.startswith("answer ") else convert_cases).expected(line)

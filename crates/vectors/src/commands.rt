@@ -41,6 +41,8 @@ const RECORD: u64 = 0x7265636f7264;
 
 const READ: u64 = 0x72656164;
 
+const ROOT: u64 = 0x726f6f74;
+
 // A command of decimal numbers, or a conversion.
 fn run(
     command: u64,
@@ -122,6 +124,7 @@ fn run_text(
             at,
         ),
         READ => files::read(files::held(file, length), values, out, at),
+        ROOT => parts::root(fields::long_decimal(text), out, at),
         _ => run(command, values, count, lists, out, at),
     }
 }

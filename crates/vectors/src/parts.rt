@@ -1,4 +1,4 @@
-// The parts of an answer: the locus, the nearest entry, the search and the classes.
+// The parts of an answer: the locus, the nearest entry, the search, the classes and the root.
 use crate::fields;
 use crate::put;
 use locus::Admission;
@@ -102,4 +102,9 @@ pub(crate) fn edges(values: [u32; 64], count: usize, out: &mut [u8; 65536], at: 
     let start = 0;
     let end = fields::bounded(count, start);
     put::last(out, at, classes::edges_valid(&values[start..end]) as u64)
+}
+
+// The largest whole number whose square is at most n.
+pub(crate) fn root(n: u64, out: &mut [u8; 65536], at: usize) -> usize {
+    put::last(out, at, arith::integer_root(n) as u64)
 }
