@@ -4,9 +4,10 @@
 
 The first six are the mistakes that document 01 warns of; the others are near misses that its rules, and those of document 02,
 leave room for. Those of spectral samples are tried on the vectors of samples, those of the locus on the vectors of places and of
-the search, those of record files on the vectors of record files, those of the text program on the first lines of its committed
-input, then on more, and at last on all of it, and the others on the vectors of neither samples nor places nor record files. A
-wrong rule with which the reference cannot go on shows nothing, and ends the check."""
+the search, those of record files on the vectors of record files, those of the root on the vectors of roots, those of the text
+program on the first lines of its committed input, then on more, and at last on all of it, and the others on the vectors of neither
+samples nor places nor record files nor roots. A wrong rule with which the reference cannot go on shows nothing, and ends the
+check."""
 
 import re
 import sys
@@ -14,7 +15,6 @@ from collections import Counter
 from contextlib import contextmanager
 from fractions import Fraction
 from itertools import zip_longest
-from math import isqrt
 from pathlib import Path
 
 sys.dont_write_bytecode = True
@@ -24,6 +24,7 @@ import record_cases
 import record_files
 import record_lines
 import reference as ref
+import root_cases
 import sample_cases
 import sample_lists
 import vectors
@@ -32,6 +33,7 @@ from hard_floats import single_precision_product
 from wrong_below_zero_rules import WRONG_BELOW_ZERO_RULES
 from wrong_locus_rules import WRONG_LOCUS_RULES, halves_down
 from wrong_record_rules import WRONG_RECORD_RULES
+from wrong_root_rules import WRONG_ROOT_RULES, rounded_to_nearest
 from wrong_sample_rules import WRONG_SAMPLE_RULES
 
 CRATES = Path(__file__).resolve().parent.parent / "crates"
@@ -107,12 +109,12 @@ def end_brackets_over_two_pieces(m, bracket=ref.bracket):
 
 
 def root_rounded_to_nearest(reading, place):
-    root = isqrt(4 * ref.distance_at(reading, place)) + 1 >> 1
+    root = rounded_to_nearest(ref.distance_at(reading, place))
     return root if reading[1] >= ref.locus_point(place)[1] else -root
 
 
 def equal_v_is_negative(reading, place):
-    root = isqrt(ref.distance_at(reading, place))
+    root = ref.root(ref.distance_at(reading, place))
     return root if reading[1] > ref.locus_point(place)[1] else -root
 
 
@@ -294,18 +296,22 @@ def main():
     of_samples = of_kinds(committed, lambda kind: kind in sample_cases.KINDS)
     of_locus = of_kinds(committed, lambda kind: kind in (*PLACE_KINDS, "search"))
     of_files = of_kinds(committed, lambda kind: kind in record_cases.KINDS)
-    others = of_kinds(committed, lambda kind: kind not in (*PLACE_KINDS, *sample_cases.KINDS, *record_cases.KINDS))
+    of_roots = of_kinds(committed, lambda kind: kind in root_cases.KINDS)
+    apart = (*PLACE_KINDS, *sample_cases.KINDS, *record_cases.KINDS, *root_cases.KINDS)
+    others = of_kinds(committed, lambda kind: kind not in apart)
     assert first_caught_text(texts) is None, "the right rules give another output"
-    assert first_caught(of_samples + of_locus + of_files) is None, "the right rules give another answer"
+    assert first_caught(of_samples + of_locus + of_files + of_roots) is None, "the right rules give another answer"
     missed = missed_of(WRONG_RULES + WRONG_BELOW_ZERO_RULES, lambda: first_caught(others))
     missed += missed_of(WRONG_LOCUS_RULES, lambda: first_caught(of_locus))
     missed += missed_of(WRONG_SAMPLE_RULES, lambda: first_caught(of_samples))
     missed += missed_of(WRONG_RECORD_RULES, lambda: first_caught(of_files), record_files)
+    missed += missed_of(WRONG_ROOT_RULES, lambda: first_caught(of_roots))
     missed += missed_of(WRONG_TEXT_RULES, lambda: first_caught_text(texts))
     if missed:
         sys.exit("check_wrong_rules: not caught: " + ", ".join(missed))
-    count = len(WRONG_RULES + WRONG_BELOW_ZERO_RULES + WRONG_LOCUS_RULES + WRONG_SAMPLE_RULES + WRONG_RECORD_RULES + WRONG_TEXT_RULES)
-    print("check_wrong_rules: all %d wrong rules are caught" % count)
+    groups = (WRONG_RULES, WRONG_BELOW_ZERO_RULES, WRONG_LOCUS_RULES, WRONG_SAMPLE_RULES, WRONG_RECORD_RULES, WRONG_ROOT_RULES,
+              WRONG_TEXT_RULES)
+    print("check_wrong_rules: all %d wrong rules are caught" % sum(map(len, groups)))
 
 
 if __name__ == "__main__":
