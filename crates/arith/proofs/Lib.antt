@@ -1,2 +1,2 @@
-pub mod Newton
+pub mod Bits
 pub mod Signed

@@ -1,6 +1,6 @@
 // Whole-number arithmetic: the rounded quotient, the square root and the magnitude.
 ghost use mathlib.Core.Path.{_≡_};
-ghost use Prim.Native.Nat.{_+_, _*_, _≤_, _<_};
+ghost use Prim.Native.Nat.{_+_, _*_, _^_, _≤_, _<_};
 ghost use lib.IntN.{natAbs};
 ghost use Rattle.arith.specs.Rounding.{nearestQuotient};
 ghost use Rattle.arith.specs.Root.{root};
@@ -21,28 +21,41 @@ pub fn nearest_quotient(a: u64, b: u64) -> u64
     }
 }
 
-// A number of 32 bits that is not below the root of n: about Newton's step from the power of two near it. Which one decides only the time.
-fn first_guess(n: u64) -> u64
-    ensures { λ r. ⌜ (r ≤ 4294967295) × (n < (r + 1) * (r + 1)) ⌝ }
+// The root of n, one bit in each of `bits` rounds, the highest first. Before each round, with f the part of the root that is found
+// and b = 2^rounds, rest is n - f·f, root is f·b and square is b·b/4. With the next bit, b/2, f·f grows by f·b + b·b/4, which is
+// growth. In the end b is 1, and root is f.
+fn root_by_bits(n: u64, bits: u32) -> u32
+    requires { ⌜ (1 ≤ bits) × (bits ≤ 32) × (n < 2 ^ (bits + bits)) ⌝ }
+    ensures { λ r. ⌜ r ≡ root n ⌝ }
 {
-    let half_bits = (64 - u64::leading_zeros(n)) / 2;
-    let guess = (1u64 << half_bits) / 2 + (n >> half_bits) / 2 + 1;
-    if guess < 4294967295 {
-        guess
-    } else {
-        4294967295
+    let mut square = 1u64 << (bits + bits - 2);
+    let mut rest = n;
+    let mut root: u64 = 0;
+    let mut rounds = bits;
+    while 0 < rounds {
+        let growth = root + square;
+        let half = root >> 1;
+        if growth <= rest {
+            rest -= growth;
+            // This is half + square, as root is even; docs/DECISIONS.md says why it is written so.
+            root = growth - half;
+        } else {
+            root = half;
+        }
+        square = square >> 2;
+        rounds -= 1;
     }
+    root as u32
 }
 
-// The largest whole number whose square is at most n, by Newton's steps down from a first guess.
+// The largest whole number whose square is at most n, bit by bit: 16 bits where n is below 2^32, and 32 otherwise.
 pub fn integer_root(n: u64) -> u32
     ensures { λ r. ⌜ r ≡ root n ⌝ }
 {
-    let mut guess = first_guess(n);
-    while n < guess * guess {
-        guess = (guess + n / guess) / 2;
+    if n < 4294967296 {
+        return root_by_bits(n, 16);
     }
-    guess as u32
+    root_by_bits(n, 32)
 }
 
 // How far z is from zero.
