@@ -8,7 +8,8 @@ Of every public function: it has an `ensures`; the result is given by an equatio
 is spoken of at `.exit`; docs/TRACE.md names it. Every promise is an equation: of the result, of what `&mut` lends as it is at the
 end, or of what `&` lends as unchanged. Of those of an entry crate also: each parameter is spoken of. What departs from this stands
 below with its reason and must still be needed; a promise that is no equation must be, word for word, the one that stands here, and
-a `requires` of an entry crate has no exception."""
+a `requires` of an entry crate has no exception. Of the functions in WITHOUT_MULTIPLY, and of all that they call: no body has a
+`*`, a `/` or a `%`, and all that is called is of their own crate, by its plain name."""
 
 import re
 import sys
@@ -49,6 +50,9 @@ PROMISES = {
     "text::finish": (INSTEAD, "λ r. ⌜ Wrote 0 (now (out .entry)) (now (out .exit)) r (closes scan) ⌝",
                      "the record Wrote gives the end and the whole buffer by an equation each"),
 }
+
+# Functions that may not multiply or divide, nor may what they call, and why.
+WITHOUT_MULTIPLY = {"arith::integer_root": "it also runs where numbers of 64 bits cannot be multiplied"}
 
 EQUATION = re.compile(r"^λ (?P<result>\w+)\. ⌜ (?P=result) ≡ (?P<value>.+) ⌝$")
 PROMISE = re.compile(r"^λ \w+\. ⌜ (?P<said>.+) ⌝$")
@@ -176,6 +180,38 @@ MEANING = {
     "silent": "no promise speaks of the parameter `%s`",
 }
 
+# A path before a bracket, with the point where it is a method's; the words that may stand there and call nothing.
+CALL = re.compile(r"(?:(?<!\.)\. ?)?(?:\w+ ?:: ?)*\w+(?= ?\()")
+NO_CALLS = ("break", "if", "in", "match", "return", "while")
+# What multiplies or divides, and what could call a function without its name before a bracket: f::<>(..), (f)(..), [f][0](..),
+# {f}(..) and f!(..).
+NOT_PLAIN = re.compile(r"[*/%]|::(?= ?<)|[)\]}](?= ?\()|(?<=\w)!(?= ?\()")
+
+
+def calls(body):
+    """What a body calls: a function of the crate by its name, a method with a point before it, any other by its path."""
+    found = (call.replace(" ", "").removeprefix("crate::") for call in CALL.findall(body))
+    return [call for call in found if call not in NO_CALLS]
+
+
+def operation_faults(listed, start):
+    """Where a function, or what it calls, multiplies, divides or goes out of its crate, given the functions of the crate."""
+    names = [start]
+    for name in names:  # they become more as calls are found
+        bodies = [function.body for function in listed if function.name == name]
+        if not bodies:
+            yield "it comes to `%s`, which is no function of its crate" % name
+        for sign in sorted(set(NOT_PLAIN.findall(" ".join(bodies)))):
+            yield "it may not multiply or divide, or call otherwise than by a name, and `%s` has a `%s`" % (name, sign)
+        names += dict.fromkeys(call for body in bodies for call in calls(body) if call not in names)
+
+
+def multiply_faults(crates, names):
+    """Every fault of the functions that may not multiply or divide."""
+    for name in names:
+        crate, _, function = name.partition("::")
+        yield from ("%s: %s" % (name, fault) for fault in operation_faults(crates.get(crate, ()), function))
+
 
 # --- Self-test --------------------------------------------------------------------------------------------------------
 
@@ -252,6 +288,70 @@ ENTRY_FAULTS = (
     ("sum x (now", "sum 0 (now", "the parameter `x`"),
 )
 
+# A function that only shifts, adds, subtracts and compares, with what it calls, and one that it does not call.
+PLAIN = """
+// Not n * n / 2 % 3.
+pub fn root(n: u64) -> u32
+    ensures { λ r. ⌜ r * r ≡ nearest n ⌝ }
+{
+    let mut left = n; /* 2 * n */
+    let mut found = 0u64;
+    for bit in 0..rounds(n) {
+        if (left >> bit) + 1 > found {
+            left = crate::less(left, found);
+        }
+    }
+    found as u32
+}
+
+fn rounds(n: u64) -> u32 {
+    if n < 4294967296 { 16 } else { 32 }
+}
+
+fn less(left: u64, growth: u64) -> u64
+    requires { ⌜ growth * 1 ≤ left ⌝ }
+{
+    left - growth
+}
+
+fn squared(n: u64) -> u64 {
+    n * n
+}
+"""
+
+# What is changed in it, and the words of a fault that must be found then.
+OPERATION_FAULTS = (
+    ("left - growth", "left * growth", "`less` has a `*`"),
+    ("left - growth", "left / growth", "`less` has a `/`"),
+    ("left - growth", "left % growth", "`less` has a `%`"),
+    ("= 0u64;", "= 0u64; found *= n;", "`root` has a `*`"),
+    ("= 0u64;", "= 0u64; found /= n;", "`root` has a `/`"),
+    ("= 0u64;", "= 0u64; found %= n;", "`root` has a `%`"),
+    ("crate::less(left, found)", "squared(left)", "`squared` has a `*`"),
+    ("left - growth", "left - squared (growth)", "`squared` has a `*`"),
+    ("crate::less(left, found)", "(squared)(left)", "`root` has a `)`"),
+    ("crate::less(left, found)", "squared::<>(left)", "`root` has a `::`"),
+    ("crate::less(left, found)", "[squared][0](left)", "`root` has a `]`"),
+    ("{ 16 }", "{ if n == b'}' { 1 } else { n / 2 } }", "`rounds` has a `/`"),
+    ("= 0u64;", "= 0u64; let text = b\"//\"; found *= n;", "`root` has a `*`"),
+    ("0..rounds(n)", "0..u64::leading_zeros(n)", "comes to `u64::leading_zeros`"),
+    ("rounds(n) {", "count_ones(n) {", "comes to `count_ones`"),
+    ("crate::less(left, found)", "left.min(found)", "comes to `.min`"),
+    ("crate::less(left, found)", "std::num::wrapping_sub_u64(left, found)", "comes to `std::num::wrapping_sub_u64`"),
+    ("crate::less(left, found)", "other::less(left, found)", "comes to `other::less`"),
+    ("pub fn root(", "pub fn roots(", "comes to `root`"),
+)
+
+
+def self_test_of_operations():
+    """Each multiply, division and call out of the crate is found where it is put in, and none where it is not."""
+    faults = lambda text: list(multiply_faults({"good": functions(text)}, ["good::root"]))
+    assert faults(PLAIN) == [], faults(PLAIN)
+    for old, new, words in OPERATION_FAULTS:
+        assert PLAIN.count(old) == 1, old
+        found = faults(PLAIN.replace(old, new))
+        assert len(found) == 1 and words in found[0], (words, found)
+
 
 def check(text, entry=(), requires={}, promises={}):
     return faults_of({"good": functions(text)}, Rules(entry, requires, promises, TRACED))
@@ -259,6 +359,7 @@ def check(text, entry=(), requires={}, promises={}):
 
 def self_test():
     """Each fault is found where it is put in, none where it is not, and an exception holds only where it is needed."""
+    self_test_of_operations()
     for entry in ((), ("good",)):
         assert check(GOOD, entry) == [], check(GOOD, entry)
         for old, new, words in FAULTS + (ENTRY_FAULTS if entry else ()):
@@ -282,7 +383,7 @@ def self_test():
     try:
         functions(GOOD.replace("pub fn add", "pub unsafe fn add"))
     except ValueError:
-        print("check_contracts: the self-test found all %d faults" % (len(FAULTS) + len(ENTRY_FAULTS) + 10))
+        print("check_contracts: the self-test found all %d faults" % (len(FAULTS + ENTRY_FAULTS + OPERATION_FAULTS) + 10))
     else:
         sys.exit("check_contracts: a function that is not read goes unnoticed")
 
@@ -294,13 +395,14 @@ def main():
         sys.exit(__doc__)
     crates = {crate: functions_of(crate) for crate in library_crates()}
     traced = named_functions(TRACE.read_text(encoding="utf-8"))
-    found = faults_of(crates, Rules(ENTRY_CRATES, REQUIRES, PROMISES, traced))
+    found = faults_of(crates, Rules(ENTRY_CRATES, REQUIRES, PROMISES, traced)) + list(multiply_faults(crates, WITHOUT_MULTIPLY))
     for line in found:
         print("check_contracts: " + line, file=sys.stderr)
     if found:
         sys.exit("check_contracts: %d faults" % len(found))
     public = sum(function.public for listed in crates.values() for function in listed)
-    print("check_contracts: %d public functions of %d crates, %d exceptions" % (public, len(crates), len(REQUIRES) + len(PROMISES)))
+    counts = public, len(crates), len(REQUIRES) + len(PROMISES), len(WITHOUT_MULTIPLY)
+    print("check_contracts: %d public functions of %d crates, %d exceptions; %d may not multiply" % counts)
 
 
 if __name__ == "__main__":

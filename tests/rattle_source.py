@@ -1,4 +1,4 @@
-"""The functions of a Rattle source file with their parameters and clauses, as far as the checks of tests/ need them."""
+"""The functions of a Rattle source file with their parameters, clauses and bodies, as far as the checks of tests/ need them."""
 
 import re
 from pathlib import Path
@@ -9,6 +9,8 @@ OPENING, CLOSING = "([{", ")]}"
 FUNCTION = re.compile(r'^[ \t]*(?P<before>(?:pub(?:\([^)]*\))? +|const +|extern "C" +)*)fn +(?P<name>\w+)', re.MULTILINE)
 IMPL = re.compile(r"^impl(?: *<[^>]*>)? +(?P<type>\w+)[^\n]*\{$(?P<body>.*?)^\}$", re.MULTILINE | re.DOTALL)
 CLAUSE = re.compile(r"\s*(?P<kind>requires|ensures)\b\s*(?P<label>\w*)\s*\{")
+COMMENT = r"//[^\n]*|/\*.*?\*/"
+LITERAL = r"""\bb(?:'(?:\\.|[^'\\])'|"(?:\\.|[^"\\])*")"""
 
 
 class Function(NamedTuple):
@@ -17,10 +19,12 @@ class Function(NamedTuple):
     parameters: tuple  # (name, type); a method's first is ("self", "self")
     requires: tuple  # what stands between the braces of each
     ensures: tuple
+    body: str  # what stands between its braces
 
 
 def without_comments(text):
-    return re.sub(r"//[^\n]*|/\*.*?\*/", "", text, flags=re.DOTALL)
+    """A text without its comments, and with a 0 for each byte or string, which could look like one or have a bracket."""
+    return re.sub("%s|(?P<literal>%s)" % (COMMENT, LITERAL), lambda found: "0" if found["literal"] else "", text, flags=re.DOTALL)
 
 
 def closing(text, at):
@@ -53,15 +57,23 @@ def parameter(text):
     return name.replace("mut ", "").strip(), kind.strip()
 
 
-def clauses(text, at):
-    """The requires and the ensures that follow a parameter list, up to the body."""
+def after_parameters(text, at):
+    """The requires, the ensures and the body that follow a parameter list."""
     start = re.compile(r"\s(?:requires|ensures)\b|[{;]").search(text, closing_type(text, at))
     at, found = start.start(), {"requires": [], "ensures": []}
     while clause := CLAUSE.match(text, at):
         end = closing(text, clause.end() - 1)
         found[clause["kind"]].append(" ".join(text[clause.end():end - 1].split()))
         at = end
-    return tuple(found["requires"]), tuple(found["ensures"])
+    return tuple(found["requires"]), tuple(found["ensures"]), body(text, at)
+
+
+def body(text, at):
+    """What stands between the braces that come next; nothing where a function is only declared."""
+    opening = re.compile(r"\s*[{;]").match(text, at)
+    if opening is None:
+        raise ValueError("neither a body nor a semicolon: " + text[at:at + 60])
+    return " ".join(text[opening.end():closing(text, opening.end() - 1) - 1].split()) if opening[0].endswith("{") else ""
 
 
 def closing_type(text, at):
@@ -81,7 +93,7 @@ def functions(text):
         end = closing(text, opening)
         parameters = tuple(map(parameter, split_at_commas(text[opening + 1:end - 1])))
         public = re.search(r"\bpub(?!\()", match["before"]) is not None
-        found.append(Function(owner + match["name"], public, parameters, *clauses(text, end)))
+        found.append(Function(owner + match["name"], public, parameters, *after_parameters(text, end)))
     if [f.name.split("::")[-1] for f in found] != re.findall(r"\bfn +(\w+)", text):
         raise ValueError("a function stands in a form that tests/rattle_source.py does not read")
     return found
