@@ -2,41 +2,34 @@
  * readings. First every answer of the library is held to the plain C's, field by field, the doubles bit by bit. */
 #include "measure.h"
 #include "plain.h"
+#include "readings.h"
 
 #include <lcms2.h>
 #include <stdio.h>
 #include <stdlib.h>
 
-enum { READINGS = 200000, ROUNDS = 21 };
+enum { ROUNDS = 21 };
 
-static uint32_t us[READINGS], vs[READINGS];
-static float xs[READINGS], ys[READINGS];
 static cmsCIExyY white_points[READINGS];
 
-/* Reading i anywhere about the locus, as u, v and as x, y; 1 where Cradlekeel's rules and lcms2 both answer it. */
+/* Reading i, as a white point too; 1 where Cradlekeel's rules and lcms2 both answer it. */
 static int offer(size_t i) {
-    us[i] = (uint32_t)(150000 + below(230000)), vs[i] = (uint32_t)(240000 + below(160000));
-    double u = us[i] / 1e6, v = vs[i] / 1e6, n = 2 * u - 8 * v + 4, kelvin;
-    xs[i] = (float)(3 * u / n), ys[i] = (float)(2 * v / n);
+    double kelvin;
+    int answered = offer_reading(i);
     white_points[i] = (cmsCIExyY){xs[i], ys[i], 1};
-    return plain_read_micro(us[i], vs[i], EDGES, EDGE_COUNT, 0).whole.refusal == CK_ACCEPTED &&
-           plain_read_xy(xs[i], ys[i], EDGES, EDGE_COUNT, 0).whole.refusal == CK_ACCEPTED &&
-           cmsTempFromWhitePoint(&kelvin, &white_points[i]);
+    return answered && cmsTempFromWhitePoint(&kelvin, &white_points[i]);
 }
+
+static const calls PROVED = {ck_read_micro, ck_read_xy}, PLAIN = {plain_read_micro, plain_read_xy};
 
 static void require_equal_answers(void) {
     for (size_t i = 0; i < READINGS; i++)
         for (uint32_t steps = 0; steps <= 15; steps++)
-            if (!same(ck_read_micro(us[i], vs[i], EDGES, EDGE_COUNT, steps),
-                      plain_read_micro(us[i], vs[i], EDGES, EDGE_COUNT, steps)) ||
-                !same(ck_read_xy(xs[i], ys[i], EDGES, EDGE_COUNT, steps),
-                      plain_read_xy(xs[i], ys[i], EDGES, EDGE_COUNT, steps))) {
+            if (!same_answers(&PROVED, &PLAIN, i, steps)) {
                 printf("DIFFERENT ANSWERS at u %u v %u, x %a y %a, %u steps\n", us[i], vs[i], xs[i], ys[i], steps);
                 exit(1);
             }
 }
-
-static double sink; /* what was answered, so that no call is left out */
 
 static double time_lcms2(void) {
     double start = seconds(), kelvin = 0;
@@ -47,30 +40,16 @@ static double time_lcms2(void) {
     return seconds() - start;
 }
 
-typedef ck_answer read_micro(uint32_t, uint32_t, const uint32_t *, size_t, uint32_t);
-static double time_micro(read_micro *read, uint32_t steps) {
-    double start = seconds();
-    for (size_t i = 0; i < READINGS; i++) sink += read(us[i], vs[i], EDGES, EDGE_COUNT, steps).kelvin;
-    return seconds() - start;
-}
-
-typedef ck_answer read_xy(float, float, const uint32_t *, size_t, uint32_t);
-static double time_xy(read_xy *read, uint32_t steps) {
-    double start = seconds();
-    for (size_t i = 0; i < READINGS; i++) sink += read(xs[i], ys[i], EDGES, EDGE_COUNT, steps).kelvin;
-    return seconds() - start;
-}
-
 static double lcms2, micro[STEP_COUNTS], xy[STEP_COUNTS], plain_micro[STEP_COUNTS], plain_xy[STEP_COUNTS];
 
 /* One round: every function once, so that other work on the machine falls on all of them. */
 static void time_all(void) {
     keep_least(&lcms2, time_lcms2());
     for (size_t k = 0; k < STEP_COUNTS; k++) {
-        keep_least(&micro[k], time_micro(ck_read_micro, STEPS[k]));
-        keep_least(&plain_micro[k], time_micro(plain_read_micro, STEPS[k]));
-        keep_least(&xy[k], time_xy(ck_read_xy, STEPS[k]));
-        keep_least(&plain_xy[k], time_xy(plain_read_xy, STEPS[k]));
+        keep_least(&micro[k], time_micro(PROVED.micro, STEPS[k]));
+        keep_least(&plain_micro[k], time_micro(PLAIN.micro, STEPS[k]));
+        keep_least(&xy[k], time_xy(PROVED.xy, STEPS[k]));
+        keep_least(&plain_xy[k], time_xy(PLAIN.xy, STEPS[k]));
     }
 }
 
