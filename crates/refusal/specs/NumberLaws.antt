@@ -6,7 +6,7 @@ use lib.Dec.{lit<}
 use lib.ListN.{getD}
 use Rattle.refusal.specs.Number.{numberOf}
 use Rattle.refusal.specs.declared.Refusal.{Refusal}
-use Rattle.refusal.specs.declared.Refusal.the-variants.{BadEdges, NotFinite, OutOfRange, TooDark, TooFar, TooHot, TooCool, BadLine, BadLengths, SampleTooLarge, TooManyRecords, NoRoom, NoTrailer, BadRecordLength, BadTrailer}
+use Rattle.refusal.specs.declared.Refusal.the-variants.{BadEdges, NotFinite, OutOfRange, TooDark, TooFar, TooHot, TooCool, BadLine, BadLengths, SampleTooLarge, TooManyRecords, NoRoom, NoTrailer, BadRecordLength, BadTrailer, TooManyLots, NoSuchPlace, StaleStamp, LastStamp}
 
 -- no refusal has the number of an accepted answer, 0
 pub number-positive : (r : Refusal) → 0 < numberOf r
@@ -25,12 +25,17 @@ number-positive NoRoom = lit< tt
 number-positive NoTrailer = lit< tt
 number-positive BadRecordLength = lit< tt
 number-positive BadTrailer = lit< tt
+number-positive TooManyLots = lit< tt
+number-positive NoSuchPlace = lit< tt
+number-positive StaleStamp = lit< tt
+number-positive LastStamp = lit< tt
 
 -- the refusals in the order of their numbers
 refusals : List Refusal
 refusals =
     BadEdges ∷ NotFinite ∷ OutOfRange ∷ TooDark ∷ TooFar ∷ TooHot ∷ TooCool ∷ BadLine ∷ BadLengths ∷ SampleTooLarge
-    ∷ TooManyRecords ∷ NoRoom ∷ NoTrailer ∷ BadRecordLength ∷ BadTrailer ∷ []
+    ∷ TooManyRecords ∷ NoRoom ∷ NoTrailer ∷ BadRecordLength ∷ BadTrailer
+    ∷ TooManyLots ∷ NoSuchPlace ∷ StaleStamp ∷ LastStamp ∷ []
 
 -- the refusal that has the number n
 refusalOf : ℕ → Refusal
@@ -53,6 +58,10 @@ of-number NoRoom = refl
 of-number NoTrailer = refl
 of-number BadRecordLength = refl
 of-number BadTrailer = refl
+of-number TooManyLots = refl
+of-number NoSuchPlace = refl
+of-number StaleStamp = refl
+of-number LastStamp = refl
 
 -- two refusals with one number are one refusal
 pub number-injective : (r s : Refusal) → numberOf r ≡ numberOf s → r ≡ s

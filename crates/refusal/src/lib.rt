@@ -33,6 +33,14 @@ pub enum Refusal {
     BadRecordLength,
     // A file whose trailer's distance back is not that of its count, or that is not exactly its records and its trailer.
     BadTrailer,
+    // More lots than a board has places.
+    TooManyLots,
+    // A place that has no lot.
+    NoSuchPlace,
+    // A stamp that is not the lot's current one.
+    StaleStamp,
+    // A lot whose stamp cannot be raised.
+    LastStamp,
 }
 
 impl Refusal {
@@ -55,6 +63,10 @@ impl Refusal {
             Refusal::NoTrailer => 13,
             Refusal::BadRecordLength => 14,
             Refusal::BadTrailer => 15,
+            Refusal::TooManyLots => 16,
+            Refusal::NoSuchPlace => 17,
+            Refusal::StaleStamp => 18,
+            Refusal::LastStamp => 19,
         }
     }
 }
