@@ -4,6 +4,7 @@ use kept::Kept;
 use records::Form;
 use records::Outcome;
 use records::Record;
+use records::ZERO_RECORD;
 ghost use mathlib.Core.Path.{_≡_};
 ghost use lib.ListN.{length};
 ghost use Rattle.records.specs.Fields.{duvWidth};
@@ -67,16 +68,7 @@ fn plain_kept(kept: Kept) -> KeptRecord
             kept: 1,
         },
         Kept::NotKept => KeptRecord {
-            fields: Record {
-                u: 0,
-                v: 0,
-                place: 0,
-                low: 0,
-                high: 0,
-                duv: 0,
-                steps: 0,
-                class: 0,
-            },
+            fields: ZERO_RECORD,
             kept: 0,
         },
     }

@@ -2,10 +2,12 @@
 use Prim.Native.Nat.{ℕ, zero, suc, _≤_, _<_, min}
 use mathlib.Core.Path.{_≡_, refl, ap, sym, _∙_}
 use mathlib.Core.List.{List, [], _∷_, _++_, map}
+use mathlib.Core.Logic.{⊎-elim}
+use native.Mathlib.Nat.{eq-or-lt-of-le}
 use native.Mathlib.Omega.{arith}
-use lib.ListN.{length, take, drop, getD, set, length-append, length-drop, length-map, List·getD-append, List·getD-map}
+use lib.ListN.{length, take, drop, getD, set, length-append, length-drop, length-map, List·getD-append, List·getD-map, List·getD-eq-default}
 use lib.IntN.{pos}
-use lib.Seq.{take-suc, take-length, getD-take, length-take-le}
+use lib.Seq.{take-suc, take-length, getD-at, getD-take, length-take-le}
 use Rattle.records.specs.Files.{zeroRecord}
 use Rattle.records.specs.Columns.{Columns, sizeOf, rowAt, rows, listOf, over, filled, firstRows}
 use Rattle.records.specs.Code.Rows.{HasRow, stored}
@@ -51,6 +53,26 @@ pub length-list : (c : Columns) → length (listOf c) ≡ sizeOf c
 unfolding listOf
 length-list c = length-rows c (sizeOf c)
 
+within : (i n : ℕ) → i < suc n → i ≤ n
+within i n h = omega arith
+
+-- record i of the first n rows
+rows-at : (c : Columns) (n i : ℕ) → i < n → getD (rows c n) i zeroRecord ≡ rowAt c i
+rows-at c zero i h = absurd (omega arith)
+rows-at c (suc n) i h =
+    ⊎-elim
+    (λ e. rw e (getD-at (rows c n) (rowAt c n) [] zeroRecord n (length-rows c n)))
+    (λ k. List·getD-append (rows c n) (rowAt c n ∷ []) zeroRecord i (omega (arith, length-rows c n)) ∙ rows-at c n i (omega arith))
+    (eq-or-lt-of-le (within i n h))
+
+-- record i of the list, and zeros beyond it
+pub list-at : (c : Columns) (i : ℕ) → i < sizeOf c → getD (listOf c) i zeroRecord ≡ rowAt c i
+unfolding listOf
+list-at c i h = rows-at c (sizeOf c) i h
+
+pub list-beyond : (c : Columns) (i : ℕ) → sizeOf c ≤ i → getD (listOf c) i zeroRecord ≡ zeroRecord
+list-beyond c i h = List·getD-eq-default (listOf c) zeroRecord (omega (arith, length-list c))
+
 -- one element more at the front of a column
 over-append : {A : Type 0} (xs : List A) (y : A) (old : List A) → length xs < length old → set (over xs old) (length xs) y ≡ over (xs ++ (y ∷ [])) old
 over-append [] y [] h = absurd (omega arith)
@@ -67,7 +89,7 @@ length-over xs old h = length-append xs (drop (length xs) old) ∙ omega (arith,
 
 module _ {A : Type 0} (f : Record → A) (rs : List Record) (old : List A) where
   -- a column after one record more
-  column-next : (r : Record) (i : ℕ) → length rs ≡ i → i < length old → set (over (map f rs) old) i (f r) ≡ over (map f (rs ++ (r ∷ []))) old
+  pub column-next : (r : Record) (i : ℕ) → length rs ≡ i → i < length old → set (over (map f rs) old) i (f r) ≡ over (map f (rs ++ (r ∷ []))) old
   column-next r i e h =
       let n : length (map f rs) ≡ i = length-map rs f ∙ e in
       ap (λ (k : ℕ). set (over (map f rs) old) k (f r)) (sym n) ∙ over-append (map f rs) (f r) old (omega arith)

@@ -1,8 +1,11 @@
 // The rows of eight columns, one for each field of a record.
 use crate::fields::Record;
+use crate::fields::ZERO_RECORD;
 ghost use mathlib.Core.Path.{_≡_};
 ghost use Prim.Native.Nat.{min};
-ghost use Rattle.records.specs.Columns.{columns, rowAt};
+ghost use lib.ListN.{getD};
+ghost use Rattle.records.specs.Columns.{columns, sizeOf, rowAt, listOf};
+ghost use Rattle.records.specs.Files.{zeroRecord};
 ghost use Rattle.records.specs.Code.Rows.{HasRow, stored};
 
 // The lesser of two lengths.
@@ -54,6 +57,53 @@ pub(crate) fn row(
         steps: steps[i],
         class: class[i],
     }
+}
+
+// How long the list in eight columns is.
+pub fn list_length(
+    u: &[u32],
+    v: &[u32],
+    place: &[u16],
+    low: &[u16],
+    high: &[u16],
+    duv: &[i16],
+    steps: &[u8],
+    class: &[u8],
+) -> usize
+    ensures length { λ r. ⌜ r ≡ sizeOf (columns (now (u .entry)) (now (v .entry)) (now (place .entry)) (now (low .entry)) (now (high .entry)) (now (duv .entry)) (now (steps .entry)) (now (class .entry))) ⌝ }
+    ensures unchanged { λ _. ⌜ columns (now (u .exit)) (now (v .exit)) (now (place .exit)) (now (low .exit)) (now (high .exit)) (now (duv .exit)) (now (steps .exit)) (now (class .exit)) ≡ columns (now (u .entry)) (now (v .entry)) (now (place .entry)) (now (low .entry)) (now (high .entry)) (now (duv .entry)) (now (steps .entry)) (now (class .entry)) ⌝ }
+{
+    shortest(
+        u.len(),
+        v.len(),
+        place.len(),
+        low.len(),
+        high.len(),
+        duv.len(),
+        steps.len(),
+        class.len(),
+    )
+}
+
+// Record i of the list in eight columns, from 0; zeros beyond the list.
+pub fn list_record(
+    u: &[u32],
+    v: &[u32],
+    place: &[u16],
+    low: &[u16],
+    high: &[u16],
+    duv: &[i16],
+    steps: &[u8],
+    class: &[u8],
+    i: usize,
+) -> Record
+    ensures record { λ r. ⌜ r ≡ getD (listOf (columns (now (u .entry)) (now (v .entry)) (now (place .entry)) (now (low .entry)) (now (high .entry)) (now (duv .entry)) (now (steps .entry)) (now (class .entry)))) i zeroRecord ⌝ }
+    ensures unchanged { λ _. ⌜ columns (now (u .exit)) (now (v .exit)) (now (place .exit)) (now (low .exit)) (now (high .exit)) (now (duv .exit)) (now (steps .exit)) (now (class .exit)) ≡ columns (now (u .entry)) (now (v .entry)) (now (place .entry)) (now (low .entry)) (now (high .entry)) (now (duv .entry)) (now (steps .entry)) (now (class .entry)) ⌝ }
+{
+    if i < list_length(u, v, place, low, high, duv, steps, class) {
+        return row(u, v, place, low, high, duv, steps, class, i);
+    }
+    ZERO_RECORD
 }
 
 // A record into a row.

@@ -26,6 +26,18 @@ pub struct Record {
     pub class: u8,
 }
 
+// A record of zeros.
+pub const ZERO_RECORD: Record = Record {
+    u: 0,
+    v: 0,
+    place: 0,
+    low: 0,
+    high: 0,
+    duv: 0,
+    steps: 0,
+    class: 0,
+};
+
 // The bytes of a record.
 pub(crate) const RECORD_LENGTH: usize = 18;
 

@@ -3,6 +3,7 @@ use crate::bytes::number_at;
 use crate::bytes::put_number;
 use crate::fields::RECORD_LENGTH;
 use crate::fields::Record;
+use crate::fields::ZERO_RECORD;
 use crate::fields::record_from;
 use refusal::Refusal;
 ghost use mathlib.Core.Path.{_≡_};
@@ -76,14 +77,5 @@ pub fn record_at(bytes: &[u8], i: usize) -> Record
     if i < bytes.len() / RECORD_LENGTH {
         return record_from(bytes, RECORD_LENGTH * i);
     }
-    Record {
-        u: 0,
-        v: 0,
-        place: 0,
-        low: 0,
-        high: 0,
-        duv: 0,
-        steps: 0,
-        class: 0,
-    }
+    ZERO_RECORD
 }

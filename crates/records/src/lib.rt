@@ -5,7 +5,10 @@ mod fields;
 mod files;
 mod transfer;
 
+pub use columns::list_length;
+pub use columns::list_record;
 pub use fields::Record;
+pub use fields::ZERO_RECORD;
 pub use files::Form;
 pub use files::check_form;
 pub use files::record_at;

@@ -1,4 +1,5 @@
 // A list of records to a file, and back.
+use crate::columns::list_length;
 use crate::columns::row;
 use crate::columns::shortest;
 use crate::columns::store;
@@ -70,16 +71,7 @@ pub fn write_records(
     ensures unchanged { λ _. ⌜ columns (now (u .exit)) (now (v .exit)) (now (place .exit)) (now (low .exit)) (now (high .exit)) (now (duv .exit)) (now (steps .exit)) (now (class .exit)) ≡ columns (now (u .entry)) (now (v .entry)) (now (place .entry)) (now (low .entry)) (now (high .entry)) (now (duv .entry)) (now (steps .entry)) (now (class .entry)) ⌝ }
     ensures back { λ r. ⌜ ReadsBack r (listOf (columns (now (u .entry)) (now (v .entry)) (now (place .entry)) (now (low .entry)) (now (high .entry)) (now (duv .entry)) (now (steps .entry)) (now (class .entry)))) ⌝ }
 {
-    let n = shortest(
-        u.len(),
-        v.len(),
-        place.len(),
-        low.len(),
-        high.len(),
-        duv.len(),
-        steps.len(),
-        class.len(),
-    );
+    let n = list_length(u, v, place, low, high, duv, steps, class);
     if MOST_RECORDS < n {
         return Outcome::Refused(Refusal::TooManyRecords);
     }
