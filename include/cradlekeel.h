@@ -1,4 +1,5 @@
-/* Cradlekeel: the correlated colour temperature, Duv and temperature class of one colour reading, and files of such answers.
+/* Cradlekeel: the correlated colour temperature, Duv and temperature class of one colour reading, files of such answers, and a board
+ * on which they are assigned to jobs.
  *
  * Build the library with `make lib`, and again after `.ci/run`, which empties target/; link target/lib/libcradlekeel.a, or
  * target/lib/libcradlekeel.so with -Wl,-rpath,"$PWD/target/lib". From examples/lamp.c, a whole program:
@@ -60,6 +61,15 @@ enum {
                                   bytes than these records and the trailer */
     CK_TOO_MANY_RECORDS = 11,  /* there are more than 3,600 records */
     CK_NO_ROOM = 12            /* a target is too small; one that is just large enough is taken */
+};
+
+/* Why a board was not loaded, or a call on it was refused: the value of `refusal` in ck_told. Loading can meet the first only, a read
+ * the second, an assignment the last three, of which the first that applies is given. */
+enum {
+    CK_TOO_MANY_LOTS = 16, /* there are more than 64 records to load */
+    CK_NO_SUCH_PLACE = 17, /* the board has no lot at that place */
+    CK_STALE_STAMP = 18,   /* the stamp is not the lot's current one, which is told; also where the current one is 65,535 */
+    CK_LAST_STAMP = 19     /* the stamp is the lot's current one and is 65,535: it cannot go up, so nothing more can be stored */
 };
 
 /* The value of `class_index` where no class is named. */
@@ -188,6 +198,75 @@ typedef struct ck_kept {
  * answer is a refusal, or has a place, low or high over 65,535 or a Duv over 32,767 either side of 0; no answer of this library
  * has one. */
 ck_kept ck_record_of(uint32_t u, uint32_t v, ck_whole answer);
+
+/* --- The board -----------------------------------------------------------------------------------------------------------
+ *
+ * A board has up to 64 lots, at places counted from 0. A lot is a record, the job that it is assigned to, and a stamp, which begins at
+ * 0 and goes up by one each time a job is stored. Whoever assigns a lot names the stamp that he saw; where somebody else was faster,
+ * the stamp is no longer current, nothing is stored, and he is told. From examples/board.c, a whole program in which Ann and Ben both
+ * want the lot at place 0 (docs/BOARD.md tells the same to dispatchers):
+ *
+ *     ck_lot seen_by_ann = ck_board_read(board, 0).told.lot;
+ *     ck_lot seen_by_ben = ck_board_read(board, 0).told.lot;
+ *     ck_board_answer ann = ck_board_assign(board, 0, seen_by_ann.stamp, 4711);
+ *     board = ann.board;
+ *     ck_board_answer ben = ck_board_assign(board, 0, seen_by_ben.stamp, 4712);
+ *     board = ben.board;
+ *
+ * ann.told.refusal is then CK_ACCEPTED, ben.told.refusal is CK_STALE_STAMP, ben.told.stamp is 1, and the board has Ann's job.
+ *
+ * A board is a value, as a number is: a function gets a copy and hands a board back, and no board that the caller has changes. To store
+ * is to go on with the board that came back, so calls come one after the other, each on the newest board; where several threads or
+ * programs share one, that is the caller's to see to. A board comes from ck_board_load, or is all zeros, which is the board of no lots;
+ * of the calls on a board only ck_board_assign hands back one that differs, where the job is stored. Given any other bytes the functions
+ * answer too: a place then has a lot where it is under `count` and under 64, and nothing outside the board is read or written. Boards
+ * are compared field by field, since the structs have padding whose bytes may be anything. */
+
+enum { CK_MOST_LOTS = 64, CK_HIGHEST_STAMP = 65535 };
+
+/* A lot of the board. */
+typedef struct ck_lot {
+    ck_record record;
+    uint32_t job;   /* 0 for none, as at loading; any other number is the caller's */
+    uint16_t stamp; /* how often a job was stored, 0 at loading */
+} ck_lot;
+
+/* The lots from `count` on are all zeros. */
+typedef struct ck_board {
+    size_t count;
+    ck_lot lots[CK_MOST_LOTS];
+} ck_board;
+
+/* What a call on the board is told. */
+typedef struct ck_told {
+    ck_lot lot;      /* of a read that is not refused; all zeros otherwise */
+    uint16_t stamp;  /* with CK_STALE_STAMP the lot's current stamp; 0 otherwise */
+    uint8_t refusal; /* 0 loaded, read or stored; else the refusal's number */
+} ck_told;
+
+/* The board after a call, and what the call is told. */
+typedef struct ck_board_answer {
+    ck_board board;
+    ck_told told;
+} ck_board_answer;
+
+/* A board of records, in their order: record i is at place i, with job 0 and stamp 0. Field by field they stand in eight columns, as
+ * for ck_write_records, and there are as many as the shortest column has numbers.
+ * Refusal: CK_TOO_MANY_LOTS, and the board handed back is the one of no lots. */
+ck_board_answer ck_board_load(const uint32_t *u, size_t u_count, const uint32_t *v, size_t v_count, const uint16_t *place,
+                              size_t place_count, const uint16_t *low, size_t low_count, const uint16_t *high, size_t high_count,
+                              const int16_t *duv, size_t duv_count, const uint8_t *steps, size_t steps_count,
+                              const uint8_t *class_index, size_t class_count);
+
+/* The lot at a place. The board handed back is the one that was handed over.
+ * Refusal: CK_NO_SUCH_PLACE. */
+ck_board_answer ck_board_read(ck_board board, size_t place);
+
+/* Assigns the lot at a place to a job, any number: 0 takes the lot from its job. `stamp` is the lot's stamp as the caller saw it. Where
+ * that is current the job is stored and the lot's stamp goes up by one; nothing else of the board changes, and no stamp is told.
+ * Refusals, in this order: CK_NO_SUCH_PLACE, CK_STALE_STAMP, CK_LAST_STAMP; the board handed back is then the one that was handed
+ * over. */
+ck_board_answer ck_board_assign(ck_board board, size_t place, uint16_t stamp, uint32_t job);
 
 #ifdef __cplusplus
 }

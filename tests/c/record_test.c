@@ -7,7 +7,7 @@
  * Compiles as C11 and as C++11. */
 #define _GNU_SOURCE 1
 #include "../../include/cradlekeel.h"
-#include "guarded.h"
+#include "columns.h"
 
 #include <inttypes.h>
 
@@ -18,20 +18,10 @@ SAME_LAYOUT(offsetof(ck_record, class_index) == 17);
 SAME_LAYOUT(sizeof(ck_done) == 16);
 SAME_LAYOUT(offsetof(ck_done, refusal) == 8);
 
-enum { U, V, PLACE, LOW, HIGH, DUV, STEPS, CLASS, COLUMNS };
-static const char LETTERS[] = "uvplhdsc";
-static const size_t WIDTHS[COLUMNS] = {4, 4, 2, 2, 2, 2, 1, 1}; /* in bytes */
-
 /* The most that a line of the vectors asks for. */
-enum { MOST_NUMBERS = 69136, MOST_BYTES = 1179648, MOST_WRITTEN = 65536, MOST_READ = 4096 };
+enum { MOST_BYTES = 1179648, MOST_WRITTEN = 65536, MOST_READ = 4096 };
 
 /* --- Numbers of each width ----------------------------------------------------------------------------------------- */
-
-static void put_number(void *at, size_t width, size_t i, uint32_t number) {
-    if (width == 4) ((uint32_t *)at)[i] = number;
-    else if (width == 2) ((uint16_t *)at)[i] = (uint16_t)number;
-    else ((uint8_t *)at)[i] = (uint8_t)number;
-}
 
 static uint32_t get_number(const void *at, size_t width, size_t i) {
     if (width == 4) return ((const uint32_t *)at)[i];
@@ -49,19 +39,16 @@ static uint32_t checksum(const void *at, size_t width, size_t count) {
 
 /* The columns and the file that are held from line to line. */
 typedef struct held {
-    const void *columns[COLUMNS];
-    size_t counts[COLUMNS];
+    columns list;
     const uint8_t *file;
     size_t length;
 } held;
 
-static region column_regions[COLUMNS], file_region, target_regions[COLUMNS], target_file_region;
+static region file_region, target_regions[COLUMNS], target_file_region;
 
 static void make_regions(void) {
-    for (int k = 0; k < COLUMNS; k++) {
-        column_regions[k] = make_region(MOST_NUMBERS * WIDTHS[k]);
-        target_regions[k] = make_region(MOST_READ * WIDTHS[k]);
-    }
+    make_column_regions();
+    for (int k = 0; k < COLUMNS; k++) target_regions[k] = make_region(MOST_READ * WIDTHS[k]);
     file_region = make_region(MOST_BYTES);
     target_file_region = make_region(MOST_WRITTEN);
 }
@@ -86,8 +73,8 @@ static void check_before(const region *r, const void *target, const char *line) 
 }
 
 static ck_done write_held(const held *h, uint8_t *to, size_t room) {
-    const void *const *c = h->columns;
-    const size_t *n = h->counts;
+    const void *const *c = h->list.at;
+    const size_t *n = h->list.counts;
     return ck_write_records((const uint32_t *)c[U], n[U], (const uint32_t *)c[V], n[V], (const uint16_t *)c[PLACE], n[PLACE],
                             (const uint16_t *)c[LOW], n[LOW], (const uint16_t *)c[HIGH], n[HIGH], (const int16_t *)c[DUV], n[DUV],
                             (const uint8_t *)c[STEPS], n[STEPS], (const uint8_t *)c[CLASS], n[CLASS], to, room);
@@ -100,28 +87,6 @@ static ck_done read_into(const uint8_t *file, size_t length, void *const c[COLUM
 }
 
 /* --- The vectors: each line's answer as tests/record_lines.py writes what it expects ------------------------------- */
-
-static const char *next_word(void) { return strtok(NULL, " \n"); }
-
-static size_t next_size(void) {
-    const char *word = next_word();
-    return strtoull(word ? word : "", NULL, 10);
-}
-
-static void hold_column(held *h, char *shown, const char *line) {
-    static uint32_t numbers[MOST_NUMBERS], stored[MOST_NUMBERS];
-    const char *letter = next_word(), *found = letter ? strchr(LETTERS, *letter) : NULL;
-    if (!found) {
-        fail("no such column", line);
-        return;
-    }
-    size_t k = (size_t)(found - LETTERS), count = 0;
-    for (const char *word; (word = next_word());) count = add_numbers(numbers, count, MOST_NUMBERS, word);
-    for (size_t i = 0; i < count; i++) put_number(stored, WIDTHS[k], i, numbers[i]);
-    h->columns[k] = lend_bytes(&column_regions[k], stored, count * WIDTHS[k]);
-    h->counts[k] = count;
-    sprintf(shown, "%zu\n", count);
-}
 
 static void hold_bytes(held *h, const uint8_t *bytes, size_t count) {
     h->file = (const uint8_t *)lend_bytes(&file_region, bytes, count);
@@ -195,7 +160,7 @@ static int kind_of(const char *word) {
 
 static void run_line(held *h, int kind, const char *expected, const char *line) {
     char shown[256] = "";
-    if (kind == COLUMN_LINE) hold_column(h, shown, line);
+    if (kind == COLUMN_LINE) hold_column(&h->list, shown, line);
     if (kind == FILE_LINE) hold_file(h, shown);
     if (kind == WRITE_LINE) write_line(h, shown, line);
     if (kind == FORM_LINE) form_line(h, shown);
@@ -230,19 +195,19 @@ static void expect(ck_done found, uint8_t refusal, size_t count, const char *wha
 static void without_a_list(void) {
     static const uint32_t numbers[1] = {1};
     static const uint8_t empty[] = {18, 0, 0, 0, 0, 0, 0, 0};
-    held none = {{NULL}, {0}, NULL, 0};
+    held none = {{{NULL}, {0}}, NULL, 0};
     void *const no_columns[COLUMNS] = {NULL};
     uint8_t *to = (uint8_t *)target(&target_file_region, 1, 8);
     expect(write_held(&none, NULL, 0), CK_NO_ROOM, 0, "NULL for everything");
-    expect(read_into(NULL, 0, no_columns, none.counts), CK_NO_TRAILER, 0, "NULL for everything");
-    expect(read_into(empty, sizeof empty, no_columns, none.counts), CK_ACCEPTED, 0, "no records into NULL");
+    expect(read_into(NULL, 0, no_columns, none.list.counts), CK_NO_TRAILER, 0, "NULL for everything");
+    expect(read_into(empty, sizeof empty, no_columns, none.list.counts), CK_ACCEPTED, 0, "no records into NULL");
     expect(ck_check_file(NULL, 0), CK_NO_TRAILER, 0, "NULL for the file");
     ck_record at = ck_record_at(NULL, 0, 0);
     if (at.u || at.v || at.place || at.low || at.high || at.duv || at.steps || at.class_index) fail("NULL for the file", "another record");
     for (int k = 0; k <= COLUMNS; k++) {
         held most = none;
         for (int j = 0; j < COLUMNS; j++)
-            if (j != k && k != COLUMNS) most.columns[j] = numbers, most.counts[j] = 1;
+            if (j != k && k != COLUMNS) most.list.at[j] = numbers, most.list.counts[j] = 1;
         memset(to, 0, 8);
         expect(write_held(&most, to, 8), CK_ACCEPTED, 8, "NULL for a column");
         if (memcmp(to, empty, sizeof empty) != 0) fail("NULL for a column", "another file");
@@ -258,7 +223,7 @@ static void columns_that_are_one(void) {
     static const uint8_t expected[] = {4, 3, 2, 1, 4, 3, 2, 1, 6, 5, 6, 5, 6, 5, 0xfe, 0xff, 9, 9,
                                        0xd0, 0xc0, 0xb0, 0xa0, 0xd0, 0xc0, 0xb0, 0xa0, 0xf0, 0xe0, 0xf0, 0xe0, 0xf0, 0xe0, 8, 7, 255, 255,
                                        18, 0, 2, 0, 36, 0, 0, 0};
-    held one = {{wide, wide, middle, middle, middle, duv, narrow, narrow}, {2, 2, 2, 2, 2, 2, 2, 2}, NULL, 0};
+    held one = {{{wide, wide, middle, middle, middle, duv, narrow, narrow}, {2, 2, 2, 2, 2, 2, 2, 2}}, NULL, 0};
     uint8_t *to = (uint8_t *)target(&target_file_region, 1, sizeof expected);
     expect(write_held(&one, to, sizeof expected), CK_ACCEPTED, sizeof expected, "columns that are one");
     if (memcmp(to, expected, sizeof expected) != 0) fail("columns that are one", "another file");

@@ -1,4 +1,5 @@
 // The C ABI of the library: one function for each entry point, declared in include/cradlekeel.h.
+mod boards;
 mod files;
 
 use cct::FloatAnswer;
