@@ -4,10 +4,10 @@
 
 The first six are the mistakes that document 01 warns of; the others are near misses that its rules, and those of document 02,
 leave room for. Those of spectral samples are tried on the vectors of samples, those of the locus on the vectors of places and of
-the search, those of record files on the vectors of record files, those of the root on the vectors of roots, those of the text
-program on the first lines of its committed input, then on more, and at last on all of it, and the others on the vectors of neither
-samples nor places nor record files nor roots. A wrong rule with which the reference cannot go on shows nothing, and ends the
-check."""
+the search, those of record files on the vectors of record files, those of the root on the vectors of roots, those of boards on the
+vectors of boards, those of the text program on the first lines of its committed input, then on more, and at last on all of it, and
+the others on the vectors of neither samples nor places nor record files nor roots nor boards. A wrong rule with which the reference
+cannot go on shows nothing, and ends the check."""
 
 import re
 import sys
@@ -20,6 +20,8 @@ from pathlib import Path
 sys.dont_write_bytecode = True
 sys.path.insert(0, str(Path(__file__).resolve().parent))
 
+import board_cases
+import board_table
 import record_cases
 import record_files
 import record_lines
@@ -31,6 +33,7 @@ import vectors
 from floats import exact_value, is_finite
 from hard_floats import single_precision_product
 from wrong_below_zero_rules import WRONG_BELOW_ZERO_RULES
+from wrong_board_rules import WRONG_BOARD_RULES
 from wrong_locus_rules import WRONG_LOCUS_RULES, halves_down
 from wrong_record_rules import WRONG_RECORD_RULES
 from wrong_root_rules import WRONG_ROOT_RULES, rounded_to_nearest
@@ -213,7 +216,7 @@ def forget():
 
 @contextmanager
 def put_in(part, name, wrong):
-    """The reference, or its part for record files, with one wrong rule."""
+    """The reference, or its part for record files or boards, with one wrong rule."""
     right = getattr(part, name)
     setattr(part, name, wrong)
     forget()
@@ -228,11 +231,12 @@ PLACE_KINDS = ("point", "points")
 
 
 def shown(line, held):
-    """A vector's line; for spectral samples the lists that it is about too, and for record files the columns and the file."""
+    """A vector's line; for spectral samples the lists that it is about too, and for record files and boards the columns and the
+    file."""
     kind, about = vectors.kind_of(line), []
     if kind in sample_cases.KINDS:
         about = [text.removeprefix("list ") for text in sample_lists.changes(sample_lists.Lists(), held)]
-    if kind in record_cases.KINDS:
+    if kind in record_cases.KINDS + board_cases.KINDS:
         about = [text.removeprefix("column ") for text in record_lines.changes(record_lines.Held(), held)]
     return ", ".join([line, *about])
 
@@ -279,13 +283,18 @@ def committed_vectors():
     return [vector for _, vector in sorted(turns, key=lambda ranked: ranked[0])]
 
 
+def title_of(name, wrong, title=None):
+    """What a rule is called: its own title, the words of its function's name, or the value that it gives to a name."""
+    return title or (wrong.__name__.replace("_", " ") if callable(wrong) else "%s = %s" % (name, wrong))
+
+
 def missed_of(rules, shown_by, part=ref):
     """The titles of the rules that nothing shows; what shows each other is printed."""
     missed = []
-    for name, wrong, *words in rules:
-        with put_in(part, name, wrong):
+    for rule in rules:
+        with put_in(part, *rule[:2]):
             caught = shown_by()
-        (title,) = words or [wrong.__name__.replace("_", " ") if callable(wrong) else "%s = %s" % (name, wrong)]
+        title = title_of(*rule)
         print("%-44s %s" % (title, "caught by: " + caught[:70] if caught else "NOT CAUGHT"))
         missed += [] if caught else [title]
     return missed
@@ -297,20 +306,22 @@ def main():
     of_locus = of_kinds(committed, lambda kind: kind in (*PLACE_KINDS, "search"))
     of_files = of_kinds(committed, lambda kind: kind in record_cases.KINDS)
     of_roots = of_kinds(committed, lambda kind: kind in root_cases.KINDS)
-    apart = (*PLACE_KINDS, *sample_cases.KINDS, *record_cases.KINDS, *root_cases.KINDS)
+    of_boards = of_kinds(committed, lambda kind: kind in board_cases.KINDS)
+    apart = (*PLACE_KINDS, *sample_cases.KINDS, *record_cases.KINDS, *root_cases.KINDS, *board_cases.KINDS)
     others = of_kinds(committed, lambda kind: kind not in apart)
     assert first_caught_text(texts) is None, "the right rules give another output"
-    assert first_caught(of_samples + of_locus + of_files + of_roots) is None, "the right rules give another answer"
+    assert first_caught(of_samples + of_locus + of_files + of_roots + of_boards) is None, "the right rules give another answer"
     missed = missed_of(WRONG_RULES + WRONG_BELOW_ZERO_RULES, lambda: first_caught(others))
     missed += missed_of(WRONG_LOCUS_RULES, lambda: first_caught(of_locus))
     missed += missed_of(WRONG_SAMPLE_RULES, lambda: first_caught(of_samples))
     missed += missed_of(WRONG_RECORD_RULES, lambda: first_caught(of_files), record_files)
     missed += missed_of(WRONG_ROOT_RULES, lambda: first_caught(of_roots))
+    missed += missed_of(WRONG_BOARD_RULES, lambda: first_caught(of_boards), board_table)
     missed += missed_of(WRONG_TEXT_RULES, lambda: first_caught_text(texts))
     if missed:
         sys.exit("check_wrong_rules: not caught: " + ", ".join(missed))
     groups = (WRONG_RULES, WRONG_BELOW_ZERO_RULES, WRONG_LOCUS_RULES, WRONG_SAMPLE_RULES, WRONG_RECORD_RULES, WRONG_ROOT_RULES,
-              WRONG_TEXT_RULES)
+              WRONG_BOARD_RULES, WRONG_TEXT_RULES)
     print("check_wrong_rules: all %d wrong rules are caught" % sum(map(len, groups)))
 
 

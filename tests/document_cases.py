@@ -1,9 +1,10 @@
 """Document 01's own cases, typed in from the document and never from our program's output: the listing, the (P) cases and the
-"Also run" list; and cases of document 02's No. 1 to 4, worked out apart from the reference. `check()` holds it to them all."""
+"Also run" list; and cases of document 02's No. 1 to 4 and 6, worked out apart from the reference. `check()` holds it to them all."""
 
 from fractions import Fraction
 from itertools import product
 
+import board_table
 import record_files
 import reference as ref
 from floats import NEGATIVE_INFINITY, QUIET_NAN, nearest_f32
@@ -116,6 +117,28 @@ UNREADABLE_FILES = (
 # How many records, the target's room in bytes, and the refusal's number, 0 where they are written.
 UNWRITTEN_FILES = ((0, 8, 0), (0, 7, 12), (3600, 64_808, 0), (3600, 64_807, 12), (3601, 64_826, 11), (3601, 0, 11), (65_536, 8, 11))
 
+# How many records, and the refusal's number, 0 where a board of as many lots is loaded.
+LOADS = ((0, 0), (1, 0), (63, 0), (64, 0), (65, 16), (3600, 16))
+
+# A morning of two dispatchers on a board of two lots: each call, and what it is told: refusal, stamp, and a lot's job and stamp.
+MORNING = (
+    (("read", 0), (0, 0, (0, 0))), (("read", 1), (0, 0, (0, 0))), (("read", 2), (17, 0, None)), (("read", 64), (17, 0, None)),
+    (("assign", 0, 0, 4711), (0, 0, None)),  # both saw stamp 0: the first is stored,
+    (("assign", 0, 0, 4712), (18, 1, None)),  # and the second is told the stamp that is now current
+    (("read", 0), (0, 0, (4711, 1))), (("read", 1), (0, 0, (0, 0))),
+    (("assign", 0, 1, 4712), (0, 0, None)), (("read", 0), (0, 0, (4712, 2))),
+    (("assign", 1, 1, 4713), (18, 0, None)), (("assign", 1, 65_535, 4713), (18, 0, None)), (("read", 1), (0, 0, (0, 0))),
+    (("assign", 2, 0, 4713), (17, 0, None)), (("assign", 2, 9, 4713), (17, 0, None)), (("assign", 2**64 - 1, 0, 4713), (17, 0, None)),
+    (("assign", 0, 2, 0), (0, 0, None)), (("read", 0), (0, 0, (0, 3))),  # a job is taken off: the stamp goes up all the same
+    (("assign", 0, 2, 4714), (18, 3, None)),
+)
+
+# What an assignment with a stamp is told where a lot's stamp is at its end, and the lot's job, 5 before, and stamp afterwards.
+LAST_STAMPS = (
+    (65_534, 65_533, (18, 65_534), (5, 65_534)), (65_534, 65_534, (0, 0), (7, 65_535)), (65_534, 65_535, (18, 65_534), (5, 65_534)),
+    (65_535, 65_534, (18, 65_535), (5, 65_535)), (65_535, 0, (18, 65_535), (5, 65_535)), (65_535, 65_535, (19, 0), (5, 65_535)),
+)
+
 
 def bits(text):
     """The f32 bits of a fraction written as text, of a NaN or of minus infinity."""
@@ -212,6 +235,23 @@ def check_targets():
     assert record_files.read_into([(7, 8)] * 7 + [()], file) == (12, 0, [(7, 8)] * 7 + [()])
 
 
+def check_board():
+    for count, refusal in LOADS:
+        board, told = board_table.load([(1,) * 8] * count)
+        assert told == (refusal, 0, None) and len(board) == (0 if refusal else count), (count, told)
+    records = RECORD_FILES[2][0]
+    board, _ = board_table.load(list(records))
+    for (name, *numbers), (refusal, stamp, lot) in MORNING:
+        board, told = getattr(board_table, name)(board, *numbers)
+        assert told == (refusal, stamp, lot and (records[numbers[0]], *lot)), (name, numbers, told)
+
+
+def check_last_stamps():
+    for current, stamp, (refusal, carried), lot in LAST_STAMPS:
+        board, told = board_table.assign({0: board_table.Lot((1,) * 8, 5, current)}, 0, stamp, 7)
+        assert told == (refusal, carried, None) and board == {0: ((1,) * 8, *lot)}, (current, stamp, told, board)
+
+
 def check():
     check_conversions()
     check_listing()
@@ -224,3 +264,5 @@ def check():
     check_cubics()
     check_record_files()
     check_targets()
+    check_board()
+    check_last_stamps()

@@ -1,5 +1,6 @@
 // One test vector: the command word, the numbers after it, and the answer.
 use crate::answers;
+use crate::boards;
 use crate::conversions;
 use crate::fields;
 use crate::files;
@@ -42,6 +43,8 @@ const RECORD: u64 = 0x7265636f7264;
 const READ: u64 = 0x72656164;
 
 const ROOT: u64 = 0x726f6f74;
+
+const BOARD: u64 = 0x626f617264;
 
 // A command of decimal numbers, or a conversion.
 fn run(
@@ -125,6 +128,7 @@ fn run_text(
         ),
         READ => files::read(files::held(file, length), values, out, at),
         ROOT => parts::root(fields::long_decimal(text), out, at),
+        BOARD => boards::history(text, lists, out, at),
         _ => run(command, values, count, lists, out, at),
     }
 }

@@ -1,5 +1,6 @@
 // Runs test vectors: one to a line of standard input, its answer to a line of standard output.
 mod answers;
+mod boards;
 mod columns;
 mod commands;
 mod conversions;
@@ -16,6 +17,10 @@ use lists::Lists;
 
 // The most bytes of a line that are held; a full list of numbers of ten digits takes 5,638.
 const LINE_ROOM: usize = 8192;
+
+// More bytes than the answer to a line has. A line `board` has the longest: a read of three bytes or more has five at most, any
+// other call of five or more has nine at most, and there are 14 besides.
+const ANSWER_ROOM: usize = 16384;
 
 type Line = [u8; LINE_ROOM];
 
@@ -42,9 +47,9 @@ fn write_out(out: [u8; 65536], waiting: usize) {
     io::write_all(1, &out[..n]);
 }
 
-// Writes the output where it nearly fills its buffer; answers how much then waits.
+// Writes the output where its buffer has no more room for an answer; answers how much then waits.
 fn with_room(out: &[u8; 65536], waiting: usize) -> usize {
-    if waiting < 65000 {
+    if waiting < 65536 - ANSWER_ROOM {
         return waiting;
     }
     write_out(*out, waiting);

@@ -32,7 +32,7 @@ pub(crate) fn first(pattern: &Pattern, room: u32) -> &[u32] {
 }
 
 // The 16 bits that hold a signed number.
-fn bits_16(z: i16) -> u32 {
+pub(crate) fn bits_16(z: i16) -> u32 {
     let size = arith::magnitude(put::widened(z));
     if z < 0 {
         return std::num::wrapping_sub_u32(65536, size);
@@ -40,11 +40,11 @@ fn bits_16(z: i16) -> u32 {
     size
 }
 
-fn wide_8(n: u8) -> u32 {
+pub(crate) fn wide_8(n: u8) -> u32 {
     n as u32
 }
 
-fn wide_16(n: u16) -> u32 {
+pub(crate) fn wide_16(n: u16) -> u32 {
     n as u32
 }
 

@@ -1,0 +1,123 @@
+"""The C library's functions on boards, asked in the second program's terms: a board is its count and its 64 slots, and a slot the
+ten numbers of its lot. The structures are written from include/cradlekeel.h apart from those of the package."""
+
+import ctypes
+import os
+import struct
+from functools import lru_cache
+from pathlib import Path
+from typing import NamedTuple
+
+from record_calls import Difference, expect
+
+ROOT = Path(__file__).resolve().parent.parent
+SLOTS = 64
+U8, U16, U32, SIZE = ctypes.c_uint8, ctypes.c_uint16, ctypes.c_uint32, ctypes.c_size_t
+COLUMNS = U32, U32, U16, U16, U16, ctypes.c_int16, U8, U8
+FIELDS = "u", "v", "place", "low", "high", "duv", "steps", "class", "job", "stamp"
+NUMBERS = struct.Struct("=IIHHHhBBxxIHxx")  # a lot's ten numbers, without the bytes between them
+WITH_GAPS = struct.Struct("=IIHHHhBBHIHH")  # and with them: two after the class, two after the stamp
+
+
+class CRecord(ctypes.Structure):
+    """ck_record"""
+
+    _fields_ = list(zip(FIELDS, COLUMNS))
+
+
+class CLot(ctypes.Structure):
+    """ck_lot"""
+
+    _fields_ = [("record", CRecord), ("job", U32), ("stamp", U16)]
+
+
+class CBoard(ctypes.Structure):
+    """ck_board"""
+
+    _fields_ = [("count", SIZE), ("lots", CLot * SLOTS)]
+
+
+class CTold(ctypes.Structure):
+    """ck_told"""
+
+    _fields_ = [("lot", CLot), ("stamp", U16), ("refusal", U8)]
+
+
+class CAnswer(ctypes.Structure):
+    """ck_board_answer"""
+
+    _fields_ = [("board", CBoard), ("told", CTold)]
+
+
+assert list(map(ctypes.sizeof, (CLot, CBoard, CTold, CAnswer))) == [28, 1800, 32, 1832]
+assert NUMBERS.size == WITH_GAPS.size == ctypes.sizeof(CLot)
+
+TAKEN = {
+    "ck_board_load": [part for kind in COLUMNS for part in (ctypes.POINTER(kind), SIZE)],
+    "ck_board_read": [CBoard, SIZE],
+    "ck_board_assign": [CBoard, SIZE, U16, U32],
+}
+NAMES = {"r": "ck_board_read", "a": "ck_board_assign"}  # by the letters of the lines `board`
+
+
+@lru_cache(maxsize=None)
+def function(name):
+    path = Path(os.environ.get("CRADLEKEEL_LIBRARY") or ROOT / "target/lib/libcradlekeel.so").resolve()
+    found = ctypes.CDLL(str(path))[name]
+    found.argtypes, found.restype = TAKEN[name], CAnswer
+    return found
+
+
+# --- Boards and answers as numbers ------------------------------------------------------------------------------------
+
+
+class Shown(NamedTuple):
+    """Every number of what a call gives back."""
+
+    count: int
+    slots: list
+    refusal: int
+    stamp: int
+    lot: tuple
+
+
+def shown(answer):
+    board, told = answer.board, answer.told
+    return Shown(board.count, list(NUMBERS.iter_unpack(bytes(board.lots))), told.refusal, told.stamp, NUMBERS.unpack(bytes(told.lot)))
+
+
+def board_of(count, slots, gaps):
+    """A board with any count and slots, and with any numbers in the bytes between its fields."""
+    lots = b"".join(WITH_GAPS.pack(*slot[:8], *gap[:1], *slot[8:], *gap[1:]) for slot, gap in zip(slots, gaps))
+    return CBoard.from_buffer_copy(count.to_bytes(8, "little") + lots)
+
+
+def numbered(what):
+    """What a call gives back, each number with its name."""
+    yield from (("the refusal", what.refusal), ("the stamp", what.stamp), ("the count", what.count))
+    for where, lot in (("the lot told", what.lot), *(("slot %d" % place, slot) for place, slot in enumerate(what.slots))):
+        yield from (("%s of %s" % (name, where), number) for name, number in zip(FIELDS, lot))
+
+
+def expect_shown(call, found, expected):
+    """Every number is the expected one."""
+    if found != expected:
+        name, number, other = next((name, a, b) for (name, a), (_, b) in zip(numbered(found), numbered(expected)) if a != b)
+        raise Difference("%s: %s is %d, and the second program has %d" % (call, name, number, other))
+
+
+# --- Calls ------------------------------------------------------------------------------------------------------------
+
+
+def c_load(columns):
+    """What `ck_board_load` gives back; the columns must stay as they are."""
+    given = [(kind * len(numbers))(*numbers) for kind, numbers in zip(COLUMNS, columns)]
+    answer = function("ck_board_load")(*(part for column in given for part in (column, len(column))))
+    for column, numbers in zip(given, columns):
+        expect("a column after ck_board_load", tuple(column), tuple(numbers))
+    return answer
+
+
+def c_call(board, letter, *numbers):
+    """What a read or an assignment gives back."""
+    return function(NAMES[letter])(board, *numbers)
