@@ -1,5 +1,5 @@
-"""Runs the vectors of answers and of record files of tests/make_vectors.py through python/cradlekeel, that package's own examples, and
-examples/.
+"""Runs the vectors of answers, of record files and of boards of tests/make_vectors.py through python/cradlekeel, that package's own
+examples, and examples/.
 
     python3 tests/abi_test.py               (tests/run-abi calls it, with the programs of examples/ compiled to target/abi/)
     python3 tests/abi_test.py --self-test   what needs no library: that its absence is said, how spectra are scaled, which records do
@@ -25,6 +25,7 @@ sys.dont_write_bytecode = True
 ROOT = Path(__file__).resolve().parent.parent
 sys.path.insert(0, str(ROOT / "python"))
 
+import board_test
 import cradlekeel
 import cradlekeel._library
 import readme_commands
@@ -128,7 +129,7 @@ def check_missing_library():
                              (here, f"{root / here} has no function ck_read_")):
             ran = run_python(["-c", call], named, root)
             assert ran.returncode == 1 and "cradlekeel.LibraryMissing" in ran.stderr and words in ran.stderr, ran.stderr
-            for command in ("spectrum", "show"):
+            for command in ("spectrum", "show", "board"):
                 ran = run_python(["-m", "cradlekeel", command, str(ROOT / "examples/incandescent.csv")], named, root)
                 assert (ran.returncode, ran.stdout, ran.stderr.count("\n")) == (2, "", 1) and words in ran.stderr, ran
 
@@ -187,16 +188,33 @@ def check_shown(where, shown, example):
         assert line in rest, f"{where} shows a line that {example} does not have there: {line}"
 
 
+def header_blocks():
+    """Each example that the header shows: the indented lines after the words that name a file of examples/."""
+    found = []
+    for line in (ROOT / "include/cradlekeel.h").read_text().splitlines():
+        if named := re.search(r"From (examples/\w+\.c)\b", line):
+            found.append((named[1], []))
+        elif found and line.startswith(" *     "):
+            found[-1][1].append(line[3:])
+    return found
+
+
+PAGE_BLOCK = re.compile(r"<!-- (examples/\S+) -->\s*```\w+\n(.*?)```", re.DOTALL)
+
+
 def check_documents():
-    """The example in the header, and the README's blocks under a comment that names a file of examples/: one for each."""
-    header = (ROOT / "include/cradlekeel.h").read_text().split("*/")[0].splitlines()
-    check_shown("include/cradlekeel.h", [line[3:] for line in header if line.startswith(" *     ")], "examples/lamp.c")
-    blocks = re.findall(r"<!-- (examples/\S+) -->\s*```\w+\n(.*?)```", (ROOT / "README.md").read_text(), re.DOTALL)
-    named = sorted(example for example, _ in blocks)
-    assert len(set(named)) == len(named) and set(LAMP_EXAMPLES) <= set(named), f"README.md has blocks of {named}"
-    for example, block in blocks:
-        check_shown("README.md", block.splitlines(), example)
-    return len(blocks)
+    """The examples in the header, and the pages' blocks under a comment that names a file of examples/: one for each on a page."""
+    shown = [("include/cradlekeel.h", *block) for block in header_blocks()]
+    assert [example for _, example, _ in shown] == ["examples/lamp.c", "examples/board.c"], f"the header shows {shown}"
+    for page in readme_commands.PAGES:
+        blocks = PAGE_BLOCK.findall((ROOT / page).read_text(encoding="utf-8"))
+        assert len(set(dict(blocks))) == len(blocks), f"{page} has two blocks of one file"
+        shown += [(page, example, block.splitlines()) for example, block in blocks]
+    named = [example for page, example, _ in shown if page == "README.md"]
+    assert set(LAMP_EXAMPLES) <= set(named), f"README.md has blocks of {named}"
+    for page, example, block in shown:
+        check_shown(page, block, example)
+    return len(shown)
 
 
 def self_test():
@@ -205,15 +223,28 @@ def self_test():
     for statuses in ({lamp_line(lamp)[1] for lamp in LAMPS}, {blackbody_line(kelvin)[1] for kelvin in BLACKBODIES}):
         assert statuses == {0, 1}, "the lamps, and the blackbodies, should have both answers and refusals"
     record_test.self_test()
+    board_test.self_test()
     scaled, blocks, commands = spectrum_test.self_test(), check_documents(), readme_commands.self_test()
     print(f"abi_test.py: {len(LAMPS)} lamps and {len(BLACKBODIES)} blackbodies computed, {scaled} spectra scaled; {blocks} blocks and "
           f"{commands} commands of the pages read")
 
 
+def doctests():
+    """The examples of the package's own documentation, by name. A public class is asked for its methods, since it is named by the package
+    and stands in a module of it, so that neither of the two is asked for them."""
+    finder, classes = doctest.DocTestFinder(), [item for item in map(cradlekeel.__dict__.get, cradlekeel.__all__) if isinstance(item, type)]
+    found = [test for module in (cradlekeel, cradlekeel.readings, cradlekeel.records, cradlekeel.spectra) for test in finder.find(module)]
+    found += [test for item in classes for test in finder.find(item, f"cradlekeel.{item.__name__}", False, vars(cradlekeel))]
+    return {test.name: test for test in found}
+
+
 def run_doctests():
     """The failures among the examples of the package's own documentation, and how many examples there are."""
-    ran = [doctest.testmod(module) for module in (cradlekeel, cradlekeel.readings, cradlekeel.records, cradlekeel.spectra)]
-    return sum(each.failed for each in ran), sum(each.attempted for each in ran)
+    runner, tests = doctest.DocTestRunner(), doctests()
+    assert tests["cradlekeel.Record.of"].examples and tests["cradlekeel.Board.load"].examples, "the methods have no examples"
+    for test in tests.values():
+        runner.run(test)
+    return runner.failures, runner.tries
 
 
 def main():
@@ -223,12 +254,12 @@ def main():
         sys.exit(__doc__)
     count = run_vectors()
     check_whole_numbers()
-    spectra, files = spectrum_test.run(), record_test.run()
+    spectra, files, boards = spectrum_test.run(), record_test.run(), board_test.run()
     check_lamps()
     check_blackbodies()
     blocks, commands = check_documents(), readme_commands.run(with_library=True)
     failed, attempted = run_doctests()
-    print(f"abi_test.py: {count} vectors of answers and {files} of record files, each by the C function and by the Python one; {spectra} "
+    print(f"abi_test.py: {count} vectors of answers, {files} of record files, each by C and by Python, {boards} of boards by Python; {spectra} "
           f"spectra; {attempted} examples, {failed} failures; {len(LAMPS)} lamps by each of two programs and {len(BLACKBODIES)} blackbodies; "
           f"{blocks} blocks and {commands} commands of the pages")
     sys.exit(failed != 0)

@@ -1,4 +1,5 @@
-"""The commands that README.md and docs/FILES.md show with `$ ` in their indented blocks, run again: each must print the lines under it.
+"""The commands that README.md and the pages of docs/ below show with `$ ` in their indented blocks, run again: each must print the lines
+under it.
 
 A command goes on over further lines while bash finds it incomplete. One with no lines under it is only run, and must succeed.
 tests/run-abi runs those that need the C library, tests/run-program all others, so that every command runs in one of the two."""
@@ -13,9 +14,9 @@ ROOT = Path(__file__).resolve().parent.parent
 FENCE = re.compile(r"^ *```.*?^ *```[^\n]*$", re.MULTILINE | re.DOTALL)
 INDENT, PROMPT = "    ", "$ "
 NEEDS_LIBRARY = re.compile(
-    r"\b(?:gcc|g\+\+|python3|target/lib|target/lamp|target/samples|target/\w+\.rec|cradlekeel (?:save|show|spectrum))(?![\w-])")
+    r"\b(?:gcc|g\+\+|python3|target/lib|target/lamp|target/samples|target/\w+\.rec|cradlekeel (?:board|save|show|spectrum))(?![\w-])")
 LEFT_OUT = ("make lib", ".ci/run")  # tests/run-abi and the gate run these themselves
-PAGES = ("README.md", "docs/FILES.md")
+PAGES = ("README.md", "docs/FILES.md", "docs/BOARD.md")
 FEWEST = 3  # on each page
 PATIENCE = 120  # seconds that one command may take
 
@@ -123,14 +124,18 @@ A sentence with `$ false`, and a block.
     $ bin/cradlekeel spectrum lamp.csv
     $ printf '1 2\\n' | bin/cradlekeel save day.rec
     $ od target/day.rec
+    $ bin/cradlekeel board day.rec <<'END'
+    read 0
+    END
+    17
 """
 
 
 def self_test():
     """The sample is read as it should be, and a wrong output, a wrong status and a command without an end are found."""
     found = commands(SAMPLE)
-    assert [len(command.shown) for command in found] == [2, 0, 3, 0, 0, 0, 0], found
-    assert [command.needs_library for command in found] == [False, False, False, True, True, True, True], found
+    assert [len(command.shown) for command in found] == [2, 0, 3, 0, 0, 0, 0, 1], found
+    assert [command.needs_library for command in found] == [False, False, False, True, True, True, True, True], found
     assert [fault(command) for command in found[:3]] == [None, None, None], found
     assert fault(found[0]._replace(shown=("c",))) and fault(found[2]._replace(text="echo d"))
     assert fault(Command("false", ()))

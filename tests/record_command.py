@@ -588,7 +588,7 @@ def check_usage(folder):
             check(f"{name} {words} is wrong usage", told and not ran.stdout and ran.returncode == 2, ran)
     for words, fault in (([], b"no command is named"), (["saev", "a"], b"'saev' is not a command")):
         ran = run(["-B", "-m", "cradlekeel", *words], command=sys.executable, env={**os.environ, "PYTHONPATH": str(ROOT / "python")}, cwd=folder)
-        expect(f"a command {words}", ran, b"", b"cradlekeel: " + fault + b": there are save, show, spectrum; see cradlekeel --help\n", 2)
+        expect(f"a command {words}", ran, b"", b"cradlekeel: " + fault + b": there are board, save, show, spectrum; see cradlekeel --help\n", 2)
     check("nothing is made", not os.listdir(folder), os.listdir(folder))
 
 

@@ -8,6 +8,7 @@ import sys
 from .commands import ANSWERED, FAILED, NOT_RUN, BadFile, Failed, HelpAsked, WrongUsage, say, write_out
 
 COMMANDS = {  # a module of cradlekeel.commands for each
+    "board": "a board of the lots in a record file, run by commands",
     "save": "the answers to lines, kept in a record file too",
     "show": "the records of record files, one to a line",
     "spectrum": "the temperature, Duv and class of spectra in a meter's files",

@@ -47,6 +47,30 @@ class Kept(ctypes.Structure):
     _fields_ = [("record", StoredRecord), ("kept", ctypes.c_uint8)]
 
 
+class StoredLot(ctypes.Structure):
+    """`ck_lot` of include/cradlekeel.h."""
+
+    _fields_ = [("record", StoredRecord), ("job", ctypes.c_uint32), ("stamp", ctypes.c_uint16)]
+
+
+class StoredBoard(ctypes.Structure):
+    """`ck_board` of include/cradlekeel.h."""
+
+    _fields_ = [("count", ctypes.c_size_t), ("lots", StoredLot * 64)]
+
+
+class ToldByBoard(ctypes.Structure):
+    """`ck_told` of include/cradlekeel.h."""
+
+    _fields_ = [("lot", StoredLot), ("stamp", ctypes.c_uint16), ("refusal", ctypes.c_uint8)]
+
+
+class BoardAnswer(ctypes.Structure):
+    """`ck_board_answer` of include/cradlekeel.h."""
+
+    _fields_ = [("board", StoredBoard), ("told", ToldByBoard)]
+
+
 def _reading(*numbers):
     """What a function takes that answers a reading of these numbers, and what it returns."""
     return [*numbers, *_LIST, ctypes.c_uint32], FloatAnswer
@@ -62,6 +86,8 @@ _FUNCTIONS = {
     "ck_read_micro": _reading(ctypes.c_uint32, ctypes.c_uint32), "ck_read_samples": _reading(*4 * _LIST),
     "ck_write_records": ([*_COLUMNS, *_TARGET], Done), "ck_read_records": ([*_FILE, *_COLUMNS], Done), "ck_check_file": (_FILE, Done),
     "ck_record_at": ([*_FILE, ctypes.c_size_t], StoredRecord), "ck_record_of": ([ctypes.c_uint32, ctypes.c_uint32, WholeAnswer], Kept),
+    "ck_board_load": (_COLUMNS, BoardAnswer), "ck_board_read": ([StoredBoard, ctypes.c_size_t], BoardAnswer),
+    "ck_board_assign": ([StoredBoard, ctypes.c_size_t, ctypes.c_uint16, ctypes.c_uint32], BoardAnswer),
 }
 
 

@@ -25,9 +25,14 @@ REASONS = {
     13: "the file is too short to be a record file: it has fewer than 8 bytes",
     14: "the file is no record file, or was cut short or added to: its last 8 bytes do not begin with the record length 18",
     15: "the file was cut short, damaged or joined to another: its length, or the distance in its last 8 bytes, does not fit its count of records",
+    16: "there are more than 64 records, the most that a board has places for",
+    17: "the board has no lot at that place; places are counted from 0",
+    18: "the stamp is not the lot's current one, so nothing is stored: read the lot again, and then decide",
+    19: "the lot's stamp is 65,535, the last one, so nothing more is stored there until the board is loaded anew",
 }
 """What each refusal means. Of a reading, 9 and 10 are tested between 1 and 2, the others in the order of their numbers. 11 to 15 are
-about record files: writing tests 11 and 12, reading 13, 14, 15, 11 and 12, in this order."""
+about record files: writing tests 11 and 12, reading 13, 14, 15, 11 and 12, in this order. 16 to 19 are about boards: loading tests 16, a
+read 17, an assignment 17, 18 and 19; they are told and not raised."""
 
 KELVIN_PLACES = 103_360_000  # the temperature at a place is this over the place, in kelvin
 NO_CLASS = 255

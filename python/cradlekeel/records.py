@@ -54,7 +54,7 @@ class Record(NamedTuple):
         found = c_function("ck_record_of")(u32("u", u), u32("v", v), WholeAnswer(**given))
         if not found.kept:
             raise ValueError(f"{answer!r} has a number that a record does not keep")
-        return cls(*_numbers(found.record))
+        return cls(*numbers_of(found.record))
 
 
 for _name, _text in {
@@ -85,7 +85,7 @@ def write_records(records, target):
     """
     if not isinstance(target, bytearray):
         raise TypeError(f"the target must be a bytearray, not {type(target).__name__}")
-    columns = _columns(list(records))
+    columns = columns_of(list(records))
     return _count(c_function("ck_write_records")(*columns, (ctypes.c_uint8 * len(target)).from_buffer(target), len(target)))
 
 
@@ -146,10 +146,10 @@ def record_at(file, index):
     """
     if not 0 <= operator.index(index) < _view(file).nbytes // RECORD_BYTES:
         raise IndexError(f"the bytes have no whole record {index}")
-    return Record(*_numbers(_asked("ck_record_at", file, index)))
+    return Record(*numbers_of(_asked("ck_record_at", file, index)))
 
 
-def _numbers(stored):
+def numbers_of(stored):
     """The fields of a record that C has returned, in their order."""
     return (getattr(stored, field) for field, _ in _FIELDS)
 
@@ -189,7 +189,7 @@ def _as_file(file):
     return file, len(file)
 
 
-def _columns(records):
+def columns_of(records):
     """The fields of all records as C takes them, a column for each with its count."""
     for i, record in enumerate(records):
         if not isinstance(record, Record):

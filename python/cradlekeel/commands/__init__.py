@@ -6,7 +6,7 @@ import os
 import re
 
 BLOCK = 1 << 16  # bytes that are read at once
-ANSWERED, FAILED, NOT_RUN = 0, 1, 2  # exit statuses: 1 where a file could not be read or written, 2 for wrong usage or no library
+ANSWERED, FAILED, NOT_RUN = 0, 1, 2  # exit statuses: 1 where a file, or a line of commands, could not be taken, 2 for wrong usage or no library
 
 
 class HelpAsked(Exception):
@@ -45,6 +45,11 @@ def write_all(descriptor, held):
     """Writes bytes, however many times the system wants to be asked."""
     while held:
         held = held[os.write(descriptor, held):]
+
+
+def shown(text):
+    """A part of a file or a line as a message shows it, in ASCII and not without end."""
+    return ascii(text if len(text) <= 40 else text[:40] + "..")
 
 
 def options_of(words, names):

@@ -36,7 +36,7 @@ from decimal import Decimal
 from typing import NamedTuple
 
 from .. import EDGES, STEPS, BadSpectrum, BelowZero, Refusal, read_micro, read_spectrum
-from . import BadFile, WrongUsage, bytes_of, each_file, options_of, say, whole_number, write_out
+from . import BadFile, WrongUsage, bytes_of, each_file, options_of, say, shown, whole_number, write_out
 
 NUMBER = re.compile(r"[+-]?(?:[0-9]+\.?[0-9]*|\.[0-9]+)(?:[eE][+-]?[0-9]{1,3})?")
 LONGEST_NUMBER = 100  # characters
@@ -153,8 +153,3 @@ def number(field):
     """Exactly the number that a field says; None where it says none."""
     text = field.replace(",", ".")
     return Decimal(text) if len(text) <= LONGEST_NUMBER and NUMBER.fullmatch(text) else None
-
-
-def shown(field):
-    """A field as a message shows it, in ASCII and not without end."""
-    return ascii(field if len(field) <= 40 else field[:40] + "..")

@@ -1,0 +1,425 @@
+"""`cradlekeel board` as its users meet it; tests/run-program runs PARTS, each in a folder of its own.
+
+What is expected of commands is what the second program's board is told, in the words of the command."""
+
+import _ctypes
+import codecs
+import os
+import pty
+import resource
+import signal
+import subprocess
+import sys
+import termios
+
+import board_table
+import record_files
+from command_runs import COMMAND, PATIENCE, ROOT, Copy, check, expect, run, shell
+from dice import Dice
+from kept import shown
+
+sys.path.insert(0, str(ROOT / "python"))
+from cradlekeel import REASONS
+
+RECORDS = [(219300, 327100, 23156, 23152, 23158, -2325, 14, 2), (255910, 349510, 36176, 33592, 38760, 0, 0, 1),
+           (4_294_967_295, 0, 65_535, 0, 1, -32_768, 255, 255)]
+LAST_STAMP, STALE_STAMP = 65_535, 18
+PLACE = "PLACE is {}, which is not a whole number; places are counted from 0, as in {}"
+
+
+def board(*words, text=b"", **options):
+    return run(["board", *words], text, **options)
+
+
+def file_in(folder, records=RECORDS, name="day.rec"):
+    path = folder / name
+    path.write_bytes(record_files.file_of(records))
+    return path
+
+
+# --- What is expected of commands -------------------------------------------------------------------------------------
+
+
+class Lots:
+    """A board of the second program, and its answers as the command prints them."""
+
+    def __init__(self, records):
+        self.board, _ = board_table.load(records)
+
+    def stamp(self, place):
+        """The current stamp of a place, 0 where there is none."""
+        lot = board_table.read(self.board, place)[1].lot
+        return lot.stamp if lot else 0
+
+    def read(self, place):
+        self.board, told = board_table.read(self.board, place)
+        return f"0 {place} {told.lot.stamp} {told.lot.job} {shown(told.lot.record)}" if told.lot else f"{told.refusal}"
+
+    def assign(self, place, stamp, job):
+        self.board, told = board_table.assign(self.board, place, stamp, job)
+        return f"{told.refusal} {told.stamp}" if told.refusal == STALE_STAMP else f"{told.refusal}"
+
+    def list(self):
+        return "\n".join([*map(self.read, range(len(self.board))), f"0 lots {len(self.board)}"])
+
+    def answers(self, commands):
+        """What is printed for lines of good commands."""
+        made = ((name, map(int, numbers)) for name, *numbers in map(str.split, commands))
+        return "".join(f"{getattr(self, name)(*numbers)}\n" for name, numbers in made).encode()
+
+
+def text_of(commands):
+    return "".join(f"{command}\n" for command in commands).encode()
+
+
+# --- Commands ---------------------------------------------------------------------------------------------------------
+
+BOTH = ("read 0", "read 0", "assign 0 0 4711", "assign 0 0 4712", "read 0", "assign 1 0 4712", "list")
+PRINTED = b"""\
+0 0 0 0 219300 327100 23156 23152 23158 -2325 14 2
+0 0 0 0 219300 327100 23156 23152 23158 -2325 14 2
+0
+18 1
+0 0 1 4711 219300 327100 23156 23152 23158 -2325 14 2
+0
+0 0 1 4711 219300 327100 23156 23152 23158 -2325 14 2
+0 1 1 4712 255910 349510 36176 33592 38760 0 0 1
+0 2 0 0 4294967295 0 65535 0 1 -32768 255 -
+0 lots 3
+"""
+
+
+def check_commands(folder):
+    """Two dispatchers at three lots, written out; then every command at its limits."""
+    path = file_in(folder)
+    expect("two dispatchers", board(path, text=text_of(BOTH)), PRINTED)
+    check("the list of lots expects the same", Lots(RECORDS).answers(BOTH) == PRINTED, Lots(RECORDS).answers(BOTH))
+    places = (2, 3, 63, 64, 65, 2**32, 2**64 - 1, 2**64, 2**64 + 1, 10**900)
+    limits = (*(f"read {place}" for place in places), *(f"assign {place} 0 1" for place in places[1:]),
+              "assign 0 65535 1", "assign 0 1 1", f"assign 0 0 {2**32 - 1}", "read 0", "assign 0 1 0", "read 0", "assign 0 2 0", "read 0", "list")
+    expect("limits", board(path, text=text_of(limits)), Lots(RECORDS).answers(limits))
+    check("the file is only read", path.read_bytes() == record_files.file_of(RECORDS), path)
+    expect("a second run begins with the file", board(path, text=b"read 0"), Lots(RECORDS).answers(["read 0"]))
+    expect("no commands", board(path))
+    expect("a path alone, from its folder", board("day.rec", text=b"list\n", cwd=folder), Lots(RECORDS).answers(["list"]))
+    expect("a name that begins with a dash", shell('cp day.rec ./-h; "$0" board -- -h', b"read 1", cwd=folder), Lots(RECORDS).answers(["read 1"]))
+
+
+def check_boards(folder):
+    """Boards of 0, 1, 63 and 64 lots."""
+    for count in (0, 1, 63, 64):
+        path = file_in(folder, (22 * RECORDS)[:count])
+        commands = ["list", *(f"read {place}" for place in range(66)), *(f"assign {place} 0 {place + 1}" for place in range(66)), "list"]
+        expect(f"a board of {count} lots", board(path, text=text_of(commands)), Lots((22 * RECORDS)[:count]).answers(commands))
+
+
+def random_command(dice, lots):
+    """A command at a place of three lots or about them, with the stamp that is current there, one beside it, or any."""
+    place = dice.pick((0, 1, 2, 3, dice.below(70)))
+    stamp = (lots.stamp(place) + dice.pick((0, 0, 0, -1, 1))) % 65_536
+    job = dice.pick((0, dice.below(9), dice.below(2**32)))
+    assign = f"assign {place} {dice.pick((stamp, stamp, stamp, stamp, dice.below(65_536)))} {job}"
+    return dice.pick((f"read {place}", assign, "list" if dice.below(9) == 0 else "read 0"))
+
+
+def check_histories(folder):
+    """Random commands, thousands to a run, all that is printed compared."""
+    path = file_in(folder)
+    for seed in range(4):
+        dice, lots, commands, answers = Dice(f"board {seed}"), Lots(RECORDS), [], b""
+        for _ in range(3000):
+            commands.append(random_command(dice, lots))
+            answers += lots.answers(commands[-1:])
+        check("they are stored and refused", min(map(lots.stamp, range(3))) > 50 and b"\n18 " in answers and b"\n17\n" in answers, lots.board)
+        expect(f"history {seed}", board(path, text=text_of(commands)), answers)
+
+
+def check_last_stamp(folder):
+    """A stamp ends at 65,535: the current one is then refused with 19, any other with 18."""
+    commands = [f"assign 0 {stamp} {stamp + 1}" for stamp in range(LAST_STAMP)]
+    commands += ["read 0", "assign 0 65535 7", "assign 0 65534 7", "assign 0 0 7", "assign 1 0 7", "list"]
+    ran = board(file_in(folder), text=text_of(commands))
+    expect("every stamp", ran, Lots(RECORDS).answers(commands))
+    last = [b"0 0 65535 65535 219300 327100 23156 23152 23158 -2325 14 2", b"19", b"18 65535", b"18 65535", b"0"]
+    check("the last ones", ran.stdout.split(b"\n")[LAST_STAMP:LAST_STAMP + 5] == last, ran.stdout[-400:])
+
+
+def check_lines(folder):
+    """Spaces, tabs, carriage returns, a byte order mark, leading zeros, empty lines, comments, and a last line without a newline."""
+    path = file_in(folder)
+    read, stored = Lots(RECORDS).answers(["read 0"]), b"0\n"
+    for text, answers in (
+            (b"read 0", read), (b"read 0\n\n\n", read), (b"\n \n\t\n\r\nread 0\n", read), (b"  read\t 0 \t\n", read),
+            (b"read 0\r\nread 0\r\n", 2 * read),
+            (codecs.BOM_UTF8 + b"read 0\nread 0\n", 2 * read), (codecs.BOM_UTF8 + b"\r\nread 0\r\n", read), (codecs.BOM_UTF8, b""),
+            (codecs.BOM_UTF8 + b" # read 0\nread 0\n", read), (codecs.BOM_UTF8 + b"read" + 995 * b" " + b"0\n", read),
+            (b"# read 0\n#read 0\n   # list\n#\nread 0\n#", read), (b"read " + 995 * b"0" + b"\n", read),
+            (b"assign 0000 " + 400 * b"0" + b" " + 400 * b"0" + b"7\n", stored),
+            (b"#" + 200_000 * b"x" + b"\nread 0\n" + 900 * b" " + b"#" + 70_000 * b"y" + b"\nread 0", 2 * read),
+            (b"read" + 995 * b" " + b"0\n", read), (10_000 * b"read 0\n", 10_000 * read), (3000 * b"\n", b"")):
+        expect(f"{text[:40]}", board(path, text=text), answers)
+
+
+BAD_LINES = {  # each with what is said of it
+    "asign 0 0 1": "'asign' is not a command: there are read, assign, list, help",
+    "READ 0": "'READ' is not a command: there are read, assign, list, help",
+    "quit": "'quit' is not a command: there are read, assign, list, help",
+    "read\r0": "'read\\r0' is not a command: there are read, assign, list, help",
+    "read\f0": "'read\\x0c0' is not a command: there are read, assign, list, help",
+    "read\v0": "'read\\x0b0' is not a command: there are read, assign, list, help",
+    "read": "read takes 1 word after it and here has none: read PLACE, as in read 0",
+    "read 0 1": "read takes 1 word after it and here has 2: read PLACE, as in read 0",
+    "read 0 # a lot": "read takes 1 word after it and here has 4: read PLACE, as in read 0; a comment has a line of its own",
+    "list #all": "list takes no words after it and here has 1: list; a comment has a line of its own",
+    "assign": "assign takes 3 words after it and here has none: assign PLACE STAMP JOB, as in assign 0 0 4711",
+    "assign 0 4711": "assign takes 3 words after it and here has 2: assign PLACE STAMP JOB, as in assign 0 0 4711",
+    "assign 0 0 4711 2": "assign takes 3 words after it and here has 4: assign PLACE STAMP JOB, as in assign 0 0 4711",
+    "list 0": "list takes no words after it and here has 1: list",
+    "help read": "help takes no words after it and here has 1: help",
+    "read x": PLACE.format("'x'", "read 0"), "read -1": PLACE.format("'-1'", "read 0"), "read +1": PLACE.format("'+1'", "read 0"),
+    "read 1.0": PLACE.format("'1.0'", "read 0"), "read 0x1": PLACE.format("'0x1'", "read 0"), "read 1_0": PLACE.format("'1_0'", "read 0"),
+    "read 1,000": PLACE.format("'1,000'", "read 0"), "read ²": PLACE.format(r"'\xb2'", "read 0"), "read ٣": PLACE.format(r"'\u0663'", "read 0"),
+    f"read -{900 * '1'}": PLACE.format(f"'-{39 * '1'}..'", "read 0"), "assign x 0 1": PLACE.format("'x'", "assign 0 0 4711"),
+    "assign 0 65536 1": "STAMP is '65536', which is not a whole number from 0 to 65535, as in assign 0 0 4711",
+    f"assign 9 {900 * '1'} 1": f"STAMP is '{40 * '1'}..', which is not a whole number from 0 to 65535, as in assign 0 0 4711",
+    "assign 0 -1 1": "STAMP is '-1', which is not a whole number from 0 to 65535, as in assign 0 0 4711",
+    "assign 0 0 4294967296": "JOB is '4294967296', which is not a whole number from 0 to 4294967295, as in assign 0 0 4711",
+    "assign 0 0 job": "JOB is 'job', which is not a whole number from 0 to 4294967295, as in assign 0 0 4711",
+    "read\0 0": r"'read\x00' is not a command: there are read, assign, list, help",
+    "läs 0": r"'l\xe4s' is not a command: there are read, assign, list, help",
+    "\ufeffread 0": r"'\ufeffread' is not a command: there are read, assign, list, help",  # a byte order mark in a later line
+    "\x1b[31mred": r"'\x1b[31mred' is not a command: there are read, assign, list, help",
+    "read" + 996 * " " + "0": "a line of over 1000 bytes is longer than any command",
+    1001 * " ": "a line of over 1000 bytes is longer than any command",
+    300_000 * "x": "a line of over 1000 bytes is longer than any command",
+    70_000 * " " + "read 0": "a line of over 1000 bytes is longer than any command",
+    1000 * " " + "# too far": "a line of over 1000 bytes is longer than any command",
+}
+
+
+def check_bad_lines(folder):
+    """A line that is not understood is answered by 8, named by its number and told what is right; the board stays and the run goes on."""
+    path = file_in(folder)
+    for line, fault in BAD_LINES.items():
+        text = f"assign 0 0 5\n# a comment\n\n{line}\nlist\n".encode()
+        good, (stored, listed) = Lots(RECORDS), (["assign 0 0 5"], ["list"])
+        answers = good.answers(stored) + b"8\n" + good.answers(listed)
+        expect(f"{line[:40]}", board(path, text=text), answers, f"cradlekeel: line 4: {fault}\n".encode(), 1)
+    said = "".join(f"cradlekeel: line {number}: {fault}\n" for number, fault in enumerate(BAD_LINES.values(), 1)).encode()
+    expect("all of them", board(path, text="\n".join(BAD_LINES).encode()), len(BAD_LINES) * b"8\n", said, 1)
+    too_long = b"cradlekeel: line 1: a line of over 1000 bytes is longer than any command\n"
+    expect("a line too long after a byte order mark", board(path, text=codecs.BOM_UTF8 + b"read" + 996 * b" " + b"0"), b"8\n", too_long, 1)
+    halves = r'{ printf "\357\273\277read%1200s"; sleep 0.5; echo 0; } | "$0" board day.rec'
+    expect("one that comes in two parts", shell(halves, cwd=folder), b"8\n", too_long, 1)
+    expect("bytes that are no text", board(path, text=b"\xff\xfe\n"), b"8\n",
+           b"cradlekeel: line 1: '\\ufffd\\ufffd' is not a command: there are read, assign, list, help\n", 1)
+    ran = shell('printf "read 0\\nx\\nread 1\\n" | "$0" board day.rec 2>&1', cwd=folder)
+    first, last = Lots(RECORDS).answers(["read 0"]), Lots(RECORDS).answers(["read 1"])
+    said = f"cradlekeel: line 2: {BAD_LINES['quit'].replace('quit', 'x')}\n".encode()
+    expect("a message stands after its own answer", ran, first + b"8\n" + said + last, status=1)
+
+
+def check_help_line(folder):
+    ran = board(file_in(folder), text=b"help\nread 0\n")
+    lines = ran.stdout.decode().splitlines()
+    check("help", len(lines) > 4 and not ran.stderr and ran.returncode == 0 and lines[-1].encode() + b"\n" == Lots(RECORDS).answers(["read 0"]), ran)
+    for name in ("read PLACE ", "assign PLACE STAMP JOB ", "list ", "help "):
+        check(f"help has {name}", any(line.startswith(name) for line in lines), ran)
+    told = board("--help").stdout.decode().splitlines()
+    for number in (8, 17, 18, 19):
+        check(f"help says {number} as --help does", [f"  {line}" in told for line in lines if line.startswith(f"{number} ")] == [True], ran)
+    check("help fits a terminal", max(map(len, lines)) <= 132, ran)
+
+
+# --- Files ------------------------------------------------------------------------------------------------------------
+
+
+def check_files(folder):
+    """A file that is not loaded is named with the reason, and no command is read."""
+    file_in(folder, (30 * RECORDS)[:65], "65.rec")
+    file_in(folder, 3600 * RECORDS[:1], "3600.rec")
+    file_in(folder, 3601 * RECORDS[:1], "3601.rec")
+    (folder / "cut.rec").write_bytes(record_files.file_of(RECORDS)[:-1])
+    (folder / "empty.rec").write_bytes(b"")
+    (folder / "long.rec").write_bytes(bytes(1_179_639))
+    commands = folder / "commands"
+    commands.write_bytes(text_of(BOTH))
+    refused = {"65.rec": 16, "3600.rec": 16, "3601.rec": 11, "cut.rec": 14, "empty.rec": 13}
+    said = {name: f"refusal {number}: {REASONS[number]}" for name, number in refused.items()}
+    for name in ("65.rec", "3600.rec"):
+        said[name] += f": it has {name.removesuffix('.rec')}; docs/BOARD.md tells how to make several files of it"
+    said |= {"missing.rec": "No such file or directory", ".": "Is a directory", "long.rec": "over 1,179,638 bytes, longer than any record file"}
+    for name, why in said.items():
+        with commands.open("rb") as given:
+            ran = subprocess.run([COMMAND, "board", name], stdin=given, capture_output=True, timeout=PATIENCE, cwd=folder)
+            expect(name, ran, b"", f"cradlekeel: {name}: {why}\n".encode(), 1)
+            check(f"{name}: no command is read", os.lseek(given.fileno(), 0, os.SEEK_CUR) == 0, "something")
+
+
+# --- Line by line -----------------------------------------------------------------------------------------------------
+
+
+def check_talk(folder):
+    """A script that waits for each answer gets it at once, also that to half a line once its other half has come."""
+    lots, pipes = Lots(RECORDS), {"stdin": subprocess.PIPE, "stdout": subprocess.PIPE, "stderr": subprocess.PIPE}
+    with subprocess.Popen([COMMAND, "board", file_in(folder)], bufsize=0, **pipes) as process:
+        for command in 3 * BOTH:
+            answer = lots.answers([command])
+            process.stdin.write(f"# a comment\n{command}\n".encode())
+            check(f"the answer to {command}", process.stdout.read(len(answer)) == answer, answer)
+        process.stdin.write(b"\nrea")
+        process.stdin.write(b"d 2\nnothing\nrea")
+        answer = lots.answers(["read 2"])
+        check("a line in two parts", process.stdout.read(len(answer) + 2) == answer + b"8\n", answer)
+        told = process.stderr.read(len(b"cradlekeel: line 45: 'nothing'"))
+        check("a message comes at once too", told == b"cradlekeel: line 45: 'nothing'", told)
+        process.stdin.write(b"d 2")
+        process.stdin.close()
+        check("the last line", process.stdout.read() == answer and process.wait(PATIENCE) == 1, process.returncode)
+
+
+def check_writes(folder):
+    """Commands that one read has brought are answered before the next, by one write where the answers are short; a long output is not
+    kept to the end."""
+    counted = "import os, sys; from cradlekeel import __main__; real, calls = os.write, []; " \
+              "os.write = lambda *given: (calls.append(given[0]), real(*given))[1]; __main__.main(sys.argv[1:]); sys.exit(calls.count(1))"
+    variables, path = {**os.environ, "PYTHONPATH": str(ROOT / "python")}, file_in(folder)
+    commands = folder / "commands"
+    for text, least, most in ((20 * b"read 0\n", 1, 1), (b"# nothing\n", 0, 0), (1000 * b"list\n", 2, 4)):
+        commands.write_bytes(text)
+        with commands.open("rb") as given, open(os.devnull, "wb") as nowhere:
+            ran = subprocess.run([sys.executable, "-B", "-c", counted, "board", path], stdin=given, stdout=nowhere, env=variables, timeout=PATIENCE)
+        check(f"{text[:9]}: writes", least <= ran.returncode <= most, ran)
+
+
+def check_terminal(folder):
+    """On a terminal a refusal, and that a job is stored, is said in words after its number, and an unknown word is told how to end; without
+    one they are not."""
+    path, lots = file_in(folder), Lots(RECORDS)
+    own, theirs = pty.openpty()
+    attributes = termios.tcgetattr(theirs)
+    attributes[3] &= ~termios.ECHO
+    attributes[1] &= ~termios.OPOST
+    termios.tcsetattr(theirs, termios.TCSANOW, attributes)
+    with subprocess.Popen([COMMAND, "board", path], stdin=theirs, stdout=theirs, stderr=theirs) as process:
+        os.close(theirs)
+        os.write(own, b"assign 0 0 5\nassign 0 0 6\nassign 0 1 0\nread 9\nread\nquit\n\x04")
+        found = b""
+        try:
+            while block := os.read(own, 4096):
+                found += block
+        except OSError:  # the other side is closed
+            pass
+        check("it ends at Ctrl-D", process.wait(PATIENCE) == 1, process.returncode)
+    os.close(own)
+    answers = (("", f"{path}: 3 lots; help has the commands, and Ctrl-D ends"), ("0\n", "stored; the lot's stamp is now 1"),
+               ("18 1\n", f"refusal 18: {REASONS[18]}"), ("0\n", "stored; the lot's stamp is now 2"), ("17\n", f"refusal 17: {REASONS[17]}"),
+               ("8\n", f"line 5: {BAD_LINES['read']}"), ("8\n", f"line 6: {BAD_LINES['quit']}; Ctrl-D ends"))
+    check("what stands there", found.decode() == "".join(f"{answer}cradlekeel: {said}\n" for answer, said in answers), found)
+    commands = ["assign 0 1 5", "read 9", "assign 0 0 5"]
+    expect("a pipe has numbers only", board(path, text=text_of(commands)), lots.answers(commands))
+
+
+# --- Input and output that fail ---------------------------------------------------------------------------------------
+
+
+def check_input(folder):
+    """Where the input cannot be read to its end, what was read is answered, and a line that was cut off is not run."""
+    path, no_read = file_in(folder), b"cradlekeel: cannot read standard input: "
+    for sign in ("<&-", "</"):
+        expect(f"standard input {sign}", shell(f'"$0" board day.rec {sign}', cwd=folder), b"", no_read + b"Bad file descriptor\n", 1)
+    expect("a failure that cannot be told", shell('"$0" board day.rec </ 2>&-', cwd=folder), status=1)
+    ran = shell('"$0" board day.rec 2>&-', b"x\nread 0\n", cwd=folder)
+    expect("without a standard error", ran, b"8\n" + Lots(RECORDS).answers(["read 0"]), status=1)
+    read_end, write_end = os.pipe()
+    os.set_blocking(read_end, False)
+    os.write(write_end, b"read 0\nassign 0 0 5\nread 0")
+    ran = subprocess.run([COMMAND, "board", path], stdin=read_end, capture_output=True, timeout=PATIENCE)
+    answers = Lots(RECORDS).answers(["read 0", "assign 0 0 5"])
+    expect("a pipe that has nothing more yet and does not wait", ran, answers, no_read + b"Resource temporarily unavailable\n", 1)
+    os.close(read_end)
+    os.close(write_end)
+
+
+def no_large_files():
+    """Has a write beyond 20 bytes fail, as it does on a full disk."""
+    signal.signal(signal.SIGXFSZ, signal.SIG_IGN)
+    resource.setrlimit(resource.RLIMIT_FSIZE, (20, 20))
+
+
+def check_output(folder):
+    path, no_write = file_in(folder), b"cradlekeel: cannot write standard output: "
+    full, closed = no_write + b"No space left on device\n", no_write + b"Bad file descriptor\n"
+    for words in ("day.rec", "--help"):
+        expect("a full disk", shell(f'"$0" board {words} >/dev/full', b"list\n", cwd=folder), said=full, status=1)
+        expect("a closed standard output", shell(f'"$0" board {words} >&-', b"list\n", cwd=folder), said=closed, status=1)
+    expect("more input to come", shell('yes list | "$0" board day.rec >/dev/full', cwd=folder), said=full, status=1)
+    expect("nothing to write to a closed output", shell('"$0" board day.rec >&-', b"# nothing\n", cwd=folder))
+    with (folder / "answers").open("wb") as answers:
+        words = [COMMAND, "board", path]
+        ran = subprocess.run(words, input=b"list\n", stdout=answers, stderr=subprocess.PIPE, timeout=PATIENCE, preexec_fn=no_large_files)
+    check("a disk that fills up", (ran.returncode, ran.stderr) == (1, no_write + b"File too large\n"), ran)
+    read_end, write_end = os.pipe()
+    os.close(read_end)
+    ran = subprocess.run([COMMAND, "board", path], input=b"list\n", stdout=write_end, stderr=subprocess.PIPE, timeout=PATIENCE)
+    check("a reader that is gone", (ran.returncode, ran.stderr) == (-signal.SIGPIPE, b""), ran)
+    os.close(write_end)
+    ran = shell('yes read 1 | "$0" board day.rec | head -1; echo ${PIPESTATUS[1]}', cwd=folder)
+    expect("a reader that leaves after a line", ran, Lots(RECORDS).answers(["read 1"]) + b"141\n")
+
+
+def check_stopped(folder):
+    for stop in (signal.SIGINT, signal.SIGTERM, signal.SIGHUP):
+        pipes = {"stdin": subprocess.PIPE, "stdout": subprocess.PIPE, "stderr": subprocess.PIPE}
+        with subprocess.Popen([COMMAND, "board", file_in(folder)], start_new_session=True, bufsize=0, **pipes) as process:
+            process.stdin.write(b"assign 0 0 1\n")
+            process.stdout.read(2)
+            os.killpg(process.pid, stop)
+            said = process.stderr.read()
+            check(f"{stop.name}", (process.wait(PATIENCE), said) == (-stop, b""), (process.returncode, said))
+    check("no other file is there", os.listdir(folder) == ["day.rec"], os.listdir(folder))
+    check("nothing is stored", (folder / "day.rec").read_bytes() == record_files.file_of(RECORDS), "another file")
+
+
+# --- Usage and builds -------------------------------------------------------------------------------------------------
+
+WRONG_USAGE = {(): "no file is named", ("a", "b"): "more than one file is named", ("",): "no file is named",
+               ("-",): "'-' is not the name of a file: standard input has the commands",
+               ("--kelvin", "a"): "option --kelvin not recognized", ("-k", "a"): "option -k not recognized"}
+
+
+def check_usage(folder):
+    for word in ("-h", "--help"):
+        ran = board("a", word, cwd=folder)
+        lines = ran.stdout.decode().splitlines()
+        check(f"board {word}", lines[0] == "usage: cradlekeel board FILE < COMMANDS" and not ran.stderr and not ran.returncode, ran)
+        check(f"board {word}: options and statuses", "  -h, --help    this text" in lines and "Exit status: 0" in ran.stdout.decode(), ran)
+        check(f"board {word}: lines that a terminal shows", max(map(len, lines)) <= 132, max(map(len, lines)))
+        for words in ("lives as long as the command", "Two runs are two boards"):
+            check(f"board {word}: {words}", words in ran.stdout.decode(), ran)
+    for words, fault in WRONG_USAGE.items():
+        expect(f"board {words}", board(*words, cwd=folder), b"", f"cradlekeel: {fault}; see cradlekeel board --help\n".encode(), 2)
+    check("nothing is made", not os.listdir(folder), os.listdir(folder))
+
+
+def check_missing(folder):
+    """Without a library, or with another one, nothing is read."""
+    for named, words in (("/none.so", b"there is no such file"), (_ctypes.__file__, b"has no function ck_")):
+        ran = run(["-B", "-m", "cradlekeel", "board", file_in(folder)], text_of(BOTH), sys.executable,
+                  env={**os.environ, "PYTHONPATH": str(ROOT / "python"), "CRADLEKEEL_LIBRARY": named})
+        check(f"{named} as the library", (ran.returncode, ran.stdout) == (2, b"") and words in ran.stderr, ran)
+
+
+def check_copy(folder):
+    copy, path = Copy(folder), file_in(folder)
+    ran = run(["board", path], text_of(BOTH), copy.command, **copy.options("fail"))
+    check("a build that fails", ran.returncode == 2 and not ran.stdout and b"rt: FAILED: text" in ran.stderr, ran)
+    for asked, status in ((["board", "--help"], 0), (["board"], 2)):
+        ran = run(asked, command=copy.command, **copy.options())
+        check(f"{asked} needs nothing", ran.returncode == status and not copy.runs.read_text(), ran)
+    copy.check_run("a first run builds the library", 1, ["board", path], text_of(BOTH), PRINTED)
+    copy.check_run("a second run builds nothing", 0, ["board", path], text_of(BOTH), PRINTED)
+
+
+PARTS = (check_commands, check_boards, check_histories, check_last_stamp, check_lines, check_bad_lines, check_help_line, check_files, check_talk,
+         check_writes, check_terminal, check_input, check_output, check_stopped, check_usage, check_missing, check_copy)
