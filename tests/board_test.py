@@ -45,9 +45,6 @@ def check_unchanged():
         assert "never changed" in str(fault_of(AttributeError, lambda: setattr(empty, name, 1)))
         assert "never changed" in str(fault_of(AttributeError, lambda: delattr(empty, name)))
     assert not hasattr(empty, "__dict__")
-    full, _ = Board.load([GOOD])
-    full.__init__()
-    assert full == Board.load([GOOD])[0] != empty
     fault_of(AttributeError, lambda: setattr(NOTHING, "refusal", 1))
     fault_of(AttributeError, lambda: setattr(Lot(GOOD, 0, 0), "job", 1))
 
@@ -224,6 +221,9 @@ def check_told():
 
 def check_values():
     """Equal boards are equal values, whatever made them and whatever their padding holds."""
+    full, _ = Board.load([GOOD])
+    full.__init__()  # which does nothing to a board that there is
+    assert full == Board.load([GOOD])[0] != Board()
     board, _ = Board.load([GOOD, GOOD])
     first, second = board.assign(0, 0, 5)[0].assign(1, 0, 6)[0], board.assign(1, 0, 6)[0].assign(0, 0, 5)[0]
     assert first == second and hash(first) == hash(second) and len({board, first, second}) == 2
