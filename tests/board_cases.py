@@ -258,13 +258,20 @@ def noise(board, place, dice):
     return [("r", place) if call[1] == place else call for call in calls]
 
 
-def two_holders(board, place, dice):
+def noise_there(board, place, dice):
+    """The same, and assignments to the place with a stamp that is neither the current one nor the next, so that all are refused."""
+    ahead = [dice.pick((2, 3, 65_534, 65_535, 2 + dice.below(65_534))) for _ in range(dice.below(4))]
+    stamps = [(board[place].stamp + more) % 65_536 for more in ahead]
+    return [*noise(board, place, dice), *(("a", place, stamp, random_job(dice)) for stamp in stamps)]
+
+
+def two_holders(board, place, dice, between=noise):
     """Two dispatchers read a place, and both assign it with the stamp that they saw; others call between. The calls, and which of
     them are theirs."""
     seen, calls, theirs = board[place].stamp, [], []
     for call in (("r", place), ("r", place), ("a", place, seen, random_job(dice)), ("a", place, seen, random_job(dice)), ("r", place)):
         theirs.append(len(calls))
-        calls += [call, *noise(board, place, dice)]
+        calls += [call, *between(board, place, dice)]
     return calls, theirs
 
 
@@ -342,10 +349,11 @@ def check_every_pair():
 def check_holders_of(board, dice):
     """Two holders of each of the board's stamps that is under 65,535."""
     for place in [place for place, lot in board.items() if lot.stamp < LARGEST_STAMP]:
-        calls, theirs = two_holders(board, place, dice)
-        after, told = after_calls(board, calls)
-        check_two_holders(board[place], [calls[at] for at in theirs], [told[at] for at in theirs])
-        assert after[place] == told[theirs[-1]].lot, (board, calls)
+        for between in (noise, noise_there):
+            calls, theirs = two_holders(board, place, dice, between)
+            after, told = after_calls(board, calls)
+            check_two_holders(board[place], [calls[at] for at in theirs], [told[at] for at in theirs])
+            assert after[place] == told[theirs[-1]].lot, (board, calls)
 
 
 def check_laws():

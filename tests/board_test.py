@@ -12,6 +12,7 @@ import board_table
 import cradlekeel
 import record_cases
 import record_files
+from board_lines import calls_of
 from cradlekeel import REASONS, Board, Lot, Record, Refusal, Told
 from cradlekeel._library import StoredBoard
 from dice import Dice
@@ -125,14 +126,9 @@ class Both:
             self.call("read", place)
 
 
-TAKEN = {"r": 1, "a": 3, "n": 4}  # numbers after each letter of a `board` line
-
-
 def run_history(both, words):
     """What a `board` line prints before its checksum."""
-    words = iter(words)
-    for letter in words:
-        numbers = [int(next(words)) for _ in range(TAKEN[letter])]
+    for letter, *numbers in calls_of(words):
         yield from both.assign_often(*numbers) if letter == "n" else both.call({"r": "read", "a": "assign"}[letter], *numbers)
 
 

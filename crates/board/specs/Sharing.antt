@@ -23,7 +23,7 @@ module _ {Who : Type 0} (may : Who → ℕ → Bool) where
     pub first : handed may b x .told ≡ handed may (handed may b y .board) x .told
     pub second : handed may (handed may b x .board) y .told ≡ handed may b y .told
 
-  -- v and w have both seen the current stamp of place p on a board; after the calls xs v assigns job i there, and after the calls ys w does
+  -- v and w have both seen the current stamp of place p on a board; after the calls xs v assigns job i there, and after the calls ys w assigns there too
   module _ (b : Board) (v w : Who) (p i : ℕ) (xs ys : List (Call Who)) where
     abbrev pub seen : ℕ
     seen = lotAt (tableOf b) p .stamp
