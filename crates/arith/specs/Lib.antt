@@ -10,3 +10,5 @@ pub mod EveryLaws
 pub mod TestLaws
 pub mod IntegerLaws
 pub mod SignedLaws
+pub mod Same
+pub mod SameLaws

@@ -1,9 +1,16 @@
-// Whole-number arithmetic: the rounded quotient, the square root and the magnitude.
+// Whole-number arithmetic: the lesser number, the rounded quotient, the square root and the magnitude.
 ghost use mathlib.Core.Path.{_≡_};
-ghost use Prim.Native.Nat.{_+_, _*_, _^_, _≤_, _<_};
+ghost use Prim.Native.Nat.{_+_, _*_, _^_, _≤_, _<_, min};
 ghost use lib.IntN.{natAbs};
 ghost use Rattle.arith.specs.Rounding.{nearestQuotient};
 ghost use Rattle.arith.specs.Root.{root};
+
+// The lesser of two numbers.
+pub fn lesser(a: usize, b: usize) -> usize
+    ensures { λ r. ⌜ r ≡ min a b ⌝ }
+{
+    if a < b { a } else { b }
+}
 
 // a / b to the nearest whole number, halves up; 0 where b is 0. The remainder decides, so that nothing can overflow.
 pub fn nearest_quotient(a: u64, b: u64) -> u64

@@ -1,31 +1,19 @@
 -- Runs of bytes stored one after another: a record's numbers, a trailer's, and record after record.
 use mathlib.Core.Path.{_≡_, refl, ap, sym, _∙_}
-use Prim.Native.Nat.{ℕ, suc, _+_, _*_, _≤_}
+use Prim.Native.Nat.{ℕ, _+_, _*_}
 use mathlib.Core.List.{List, [], _∷_, _++_}
 use native.Mathlib.Omega.{arith}
 use native.Mathlib.Numerals.{add-one}
-use lib.ListN.{length, set, drop}
-use lib.Seq.{sets, sets-eq}
+use lib.Seq.{sets}
 use Rattle.records.specs.Bytes.{bytesOf, asUnsigned}
 use Rattle.records.specs.Fields.{duvWidth, recordBytes}
 use Rattle.records.specs.FieldsLaws.{Narrow}
 use Rattle.records.specs.Files.{trailerBytes, recordsBytes}
 use Rattle.records.specs.FilesLaws.{AllNarrow, narrow-append, length-records-bytes, bytes-append}
-use Rattle.records.specs.Columns.{Columns, rowAt, rows, over}
+use Rattle.records.specs.Columns.{Columns, rowAt, rows}
 use Rattle.records.specs.ColumnsLaws.{length-rows}
+use Rattle.records.specs.StoreLaws.{then}
 use Rattle.records.specs.declared.fields.Record.{Record}
-
-sets-append : (xs : List ℕ) (l : List ℕ) (i : ℕ) (ys : List ℕ) → sets (sets l i xs) (i + length xs) ys ≡ sets l i (xs ++ ys)
-sets-append [] l i ys = let e : i + 0 ≡ i = omega arith in rw e refl
-sets-append (x ∷ xs) l i ys = let e : i + suc (length xs) ≡ suc i + length xs = omega arith in rw e (sets-append xs (set l i x) (suc i) ys)
-
--- two runs, the second from the end of the first on
-pub then : (o : List ℕ) {p q : List ℕ} (a b : ℕ) (xs ys : List ℕ) → p ≡ sets o a xs → q ≡ sets p b ys → b ≡ a + length xs → q ≡ sets o a (xs ++ ys)
-then o a b xs ys e f h = f ∙ rw (e, h) (sets-append xs o a ys)
-
--- from the first byte on, and what lies beyond
-pub stored-over : (xs old : List ℕ) → length xs ≤ length old → sets old 0 xs ≡ over xs old
-stored-over xs old h = sets-eq xs old 0 (omega arith) ∙ (let e : 0 + length xs ≡ length xs = omega arith in ap (λ (n : ℕ). xs ++ drop n old) e)
 
 -- the numbers of a record, whose Duv is n as an unsigned number
 pub record-stored : (o : List ℕ) {o1 o2 o3 o4 o5 o6 o7 o8 : List ℕ} (r : Record) (at n : ℕ) → n ≡ asUnsigned duvWidth (r .duv) →

@@ -13,6 +13,7 @@ use Rattle.records.specs.Files.{trailerBytes, recordsBytes, fileOf, reco
 use Rattle.records.specs.FilesLaws.{AllNarrow, length-file, length-records-bytes}
 use Rattle.records.specs.Columns.{Columns, sizeOf, rows, listOf, over}
 use Rattle.records.specs.ColumnsLaws.{length-rows, length-list}
+use Rattle.records.specs.StoreLaws.{then, stored-over}
 use Rattle.records.specs.Transfer.{writeOutcome, readOutcome}
 use Rattle.records.specs.Conditions.{over-most, short-target, bad-form, short-columns}
 use Rattle.records.specs.RefusalLaws.{condition-write, clear-write, condition-read, clear-read, form-condition, form-readable}
@@ -20,7 +21,6 @@ use Rattle.records.specs.RoundTrips.{SameList}
 use Rattle.records.specs.RoundTripLaws.{read-written, written-read}
 use Rattle.records.specs.declared.files.Form.the-variants as form
 use Rattle.records.specs.declared.transfer.Outcome.the-variants.{Refused, Done}
-use Rattle.records.proofs.Stores.{then, stored-over}
 
 -- the least of the eight lengths is that of the list
 pub size-is : (c : Columns) (n : ℕ) → n ≡ min (length (c .u)) (min (length (c .v)) (min (length (c .place)) (min (length (c .low)) (min (length (c .high)) (min (length (c .duv)) (min (length (c .steps)) (length (c .class)))))))) → n ≡ sizeOf c

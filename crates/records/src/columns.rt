@@ -1,19 +1,13 @@
 // The rows of eight columns, one for each field of a record.
 use crate::fields::Record;
 use crate::fields::ZERO_RECORD;
+use arith::lesser;
 ghost use mathlib.Core.Path.{_≡_};
 ghost use Prim.Native.Nat.{min};
 ghost use lib.ListN.{getD};
 ghost use Rattle.records.specs.Columns.{columns, sizeOf, rowAt, listOf};
 ghost use Rattle.records.specs.Files.{zeroRecord};
 ghost use Rattle.records.specs.Code.Rows.{HasRow, stored};
-
-// The lesser of two lengths.
-fn lesser(a: usize, b: usize) -> usize
-    ensures { λ r. ⌜ r ≡ min a b ⌝ }
-{
-    if a < b { a } else { b }
-}
 
 // The least of the lengths of eight columns.
 pub(crate) fn shortest(
