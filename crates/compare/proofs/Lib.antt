@@ -1,0 +1,4 @@
+pub mod Stores
+pub mod Turns
+pub mod Files
+pub mod Whole

@@ -1,0 +1,30 @@
+-- Entries written into a target, as the functions that write them hand it on.
+use mathlib.Core.Path.{_≡_}
+use mathlib.Core.List.{List}
+use Prim.Native.Nat.{ℕ, _+_, _*_, _≤_}
+use lib.IntN.{ℤ}
+use lib.ListN.{length}
+use lib.Seq.{sets}
+use Rattle.records.specs.Files.{countIn}
+use Rattle.records.specs.Conditions.{Readable}
+use Rattle.compare.specs.Differences.{Entry, numbers}
+use Rattle.compare.specs.Comparison.{entryLength}
+
+-- the entries stand in the target from a place on, what else it held is there still, and the next entry goes to `end`
+pub record Put (old new : List ℤ) (at end : ℕ) (es : List Entry) : Type 0 where
+  pub target : new ≡ sets old at (numbers es)
+  pub next : end ≡ at + entryLength * length es
+
+-- both files can be read, and have m and n records
+pub record Counted (a b : List ℕ) (m n : ℕ) : Type 0 where
+  pub first : Readable a
+  pub second : Readable b
+  pub in-first : countIn a ≡ m
+  pub in-second : countIn b ≡ n
+
+-- both files can be read, and have n records at least
+pub record BothHave (a b : List ℕ) (n : ℕ) : Type 0 where
+  pub first : Readable a
+  pub second : Readable b
+  pub in-first : n ≤ countIn a
+  pub in-second : n ≤ countIn b

@@ -1,0 +1,9 @@
+pub mod Differences
+pub mod Comparison
+pub mod Rules
+pub mod InStepLaws
+pub mod EntryLaws
+pub mod RisingLaws
+pub mod DifferenceLaws
+pub mod RuleLaws
+pub mod Code
