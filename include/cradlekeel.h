@@ -1,5 +1,5 @@
-/* Cradlekeel: the correlated colour temperature, Duv and temperature class of one colour reading, files of such answers, and a board
- * on which they are assigned to jobs.
+/* Cradlekeel: the correlated colour temperature, Duv and temperature class of one colour reading, files of such answers, the differences
+ * of two such files, and a board on which the answers are assigned to jobs.
  *
  * Build the library with `make lib`, and again after `.ci/run`, which empties target/; link target/lib/libcradlekeel.a, or
  * target/lib/libcradlekeel.so with -Wl,-rpath,"$PWD/target/lib". From examples/lamp.c, a whole program:
@@ -14,7 +14,7 @@
  * (crates/cct_c and the crates below it):
  *   - it returns, and what it returns is the answer that the definitions give (README.md lists them in their order);
  *   - it writes nothing through a pointer to const;
- *   - a target (any other pointer: of ck_write_records the file, of ck_read_records the columns) gets all that belongs there;
+ *   - a target (any other pointer: to a file to be written, columns to be read into, a list of differences) gets all that belongs there;
  *   - on a refusal a target gets nothing, and beyond what is written it always keeps what it held.
  * The functions keep nothing between calls and allocate nothing, so threads may call them at the same time.
  *
@@ -52,8 +52,9 @@ enum {
     CK_TOO_COOL = 7           /* beyond the locus's 1600 K end */
 };
 
-/* Why a record file was not written or not read: the value of `refusal` in ck_done. Of this list too the first that applies is
- * given; writing can meet the last two only. */
+/* Why a record file was not written or not read, or two were not compared: the value of `refusal` in ck_done and ck_compared. Of this
+ * list too the first that applies is given; writing can meet the last two only, and comparing goes through the first four for each
+ * file. */
 enum {
     CK_NO_TRAILER = 13,        /* the file has fewer than 8 bytes */
     CK_BAD_RECORD_LENGTH = 14, /* its trailer has another record length than 18 */
@@ -198,6 +199,51 @@ typedef struct ck_kept {
  * answer is a refusal, or has a place, low or high over 65,535 or a Duv over 32,767 either side of 0; no answer of this library
  * has one. */
 ck_kept ck_record_of(uint32_t u, uint32_t v, ck_whole answer);
+
+/* --- The differences of two record files -----------------------------------------------------------------------------------
+ *
+ * Record 0 of one file is compared with record 0 of the other and so on, field by field, by the numbers that they hold. A difference is
+ * four numbers: the record's, counted from 0, the field's, what the first file has there, and what the second has. Differences come in
+ * the order of records, and of fields within a record; after all of them comes one for each record that only the longer file has: the
+ * record's number, CK_ONLY_FIRST or CK_ONLY_SECOND, and two zeros. Each is listed once, and nothing else is: where none is listed both
+ * files have the same records. examples/compare.c is a whole program. */
+
+/* The second number of a difference: a field, in the order of ck_record, or the file that has the record. */
+enum {
+    CK_FIELD_U = 0,
+    CK_FIELD_V = 1,
+    CK_FIELD_PLACE = 2,
+    CK_FIELD_LOW = 3,
+    CK_FIELD_HIGH = 4,
+    CK_FIELD_DUV = 5, /* signed, as in ck_record */
+    CK_FIELD_STEPS = 6,
+    CK_FIELD_CLASS = 7, /* 255 for none, as in ck_record */
+    CK_ONLY_FIRST = 8,
+    CK_ONLY_SECOND = 9
+};
+
+/* How many numbers are always room enough: for files of m and n records, which ck_check_file tells, 4 * (8 * min(m, n) + |m - n|), since
+ * records that both have differ in 8 fields at the most; and for any two files CK_MOST_DIFFERENCE_NUMBERS, which is 115,200, in 921,600
+ * bytes. */
+enum {
+    CK_DIFFERENCE_NUMBERS = 4,
+    CK_MOST_DIFFERENCES = 8 * CK_MOST_RECORDS,
+    CK_MOST_DIFFERENCE_NUMBERS = CK_DIFFERENCE_NUMBERS * CK_MOST_DIFFERENCES
+};
+
+/* What a comparison came to. */
+typedef struct ck_compared {
+    size_t count;    /* differences listed; 0 where it was refused */
+    uint8_t refusal; /* 0 compared; else the refusal's number */
+    uint8_t file;    /* 1 or 2 where the refusal is about the first or the second file, which cannot be read; 0 otherwise */
+} ck_compared;
+
+/* Lists the differences of two files in `target`, which has room for `room` numbers, four to a difference. Exactly so many suffice, none
+ * where nothing differs, and what `target` holds beyond them, up to `room`, stays. `first` and `second` may be one file.
+ * Refusals, in this order: CK_NO_TRAILER, CK_BAD_RECORD_LENGTH, CK_BAD_TRAILER, CK_TOO_MANY_RECORDS of the first file; the same of the
+ * second; CK_NO_ROOM (`room` is less than the numbers to write), which is of neither file. */
+ck_compared ck_compare_files(const uint8_t *first, size_t first_length, const uint8_t *second, size_t second_length, int64_t *target,
+                             size_t room);
 
 /* --- The board -----------------------------------------------------------------------------------------------------------
  *

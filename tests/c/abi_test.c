@@ -8,6 +8,7 @@
 #define _GNU_SOURCE 1
 #include "../../include/cradlekeel.h"
 #include "guarded.h"
+#include "lines.h"
 
 #include <inttypes.h>
 
@@ -68,7 +69,7 @@ typedef struct call {
 } call;
 
 static uint32_t next_number(int base) {
-    const char *word = strtok(NULL, " \n");
+    const char *word = next_word();
     return (uint32_t)strtoul(word ? word : "", NULL, base);
 }
 
@@ -76,14 +77,14 @@ static uint32_t next_number(int base) {
 static list next_list(int which) {
     static uint32_t numbers[MOST_NUMBERS];
     size_t count = 0;
-    for (const char *word; (word = strtok(NULL, " \n"));) count = add_numbers(numbers, count, MOST_NUMBERS, word);
+    for (const char *word; (word = next_word());) count = add_numbers(numbers, count, MOST_NUMBERS, word);
     return lend(which, numbers, count);
 }
 
 /* `list s|x|y|z NUMBERS..`, the words after the first: the list is replaced, and its length is the answer expected. */
 static void hold_list(call *made, const char *expected, const char *line) {
     static const char names[] = "sxyz";
-    const char *name = strtok(NULL, " \n"), *found = name ? strchr(names, *name) : NULL;
+    const char *name = next_word(), *found = name ? strchr(names, *name) : NULL;
     if (!found) {
         fail("no such list", line);
         return;
@@ -95,7 +96,7 @@ static void hold_list(call *made, const char *expected, const char *line) {
 
 /* `answer KIND NUMBERS.. MAX_STEPS EDGES..`, the words after the first. */
 static void read_call(call *made) {
-    const char *kind = strtok(NULL, " \n");
+    const char *kind = next_word();
     snprintf(made->kind, sizeof made->kind, "%s", kind ? kind : "");
     int base = strcmp(made->kind, "whole") == 0 ? 10 : 16;
     int count = strcmp(made->kind, "samples") == 0 ? 0 : strcmp(made->kind, "xyz") == 0 ? 3 : 2;

@@ -40,21 +40,19 @@ static ck_board_answer load(const columns *c) {
 
 /* --- The vectors --------------------------------------------------------------------------------------------------- */
 
-static uint32_t add(uint32_t sum, uint32_t number) { return (uint32_t)(((uint64_t)sum * 1000003 + number) % 4294967291u); }
-
 static uint32_t add_lot(uint32_t sum, const ck_lot *lot) {
     const ck_record *r = &lot->record;
     const uint32_t numbers[] = {r->u, r->v, r->place, r->low, r->high, (uint16_t)r->duv, r->steps, r->class_index, lot->job, lot->stamp};
-    for (size_t i = 0; i < sizeof numbers / sizeof *numbers; i++) sum = add(sum, numbers[i]);
+    for (size_t i = 0; i < sizeof numbers / sizeof *numbers; i++) sum = with_number(sum, numbers[i]);
     return sum;
 }
 
 /* What a call was told, and then what a read of each place 0 to 64 is told. */
 static uint32_t add_answer(uint32_t sum, const ck_board_answer *a) {
-    sum = add_lot(add(add(sum, a->told.refusal), a->told.stamp), &a->told.lot);
+    sum = add_lot(with_number(with_number(sum, a->told.refusal), a->told.stamp), &a->told.lot);
     for (size_t place = 0; place <= MOST_LOTS; place++) {
         ck_told told = ck_board_read(a->board, place).told;
-        sum = add_lot(add(sum, told.refusal), &told.lot);
+        sum = add_lot(with_number(sum, told.refusal), &told.lot);
     }
     return sum;
 }

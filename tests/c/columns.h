@@ -3,6 +3,7 @@
 #define COLUMNS_H
 
 #include "guarded.h"
+#include "lines.h"
 
 enum { U, V, PLACE, LOW, HIGH, DUV, STEPS, CLASS, COLUMNS };
 static const char LETTERS[] = "uvplhdsc";
@@ -34,13 +35,6 @@ static void lend_column(columns *c, size_t k, const uint32_t *numbers, size_t co
     for (size_t i = 0; i < count; i++) put_number(stored, WIDTHS[k], i, numbers[i]);
     c->at[k] = lend_bytes(&column_regions[k], stored, count * WIDTHS[k]);
     c->counts[k] = count;
-}
-
-static const char *next_word(void) { return strtok(NULL, " \n"); }
-
-static size_t next_size(void) {
-    const char *word = next_word();
-    return strtoull(word ? word : "", NULL, 10);
 }
 
 /* `column u|v|p|l|h|d|s|c NUMBERS..`, the words after the first: the column is replaced; how many numbers it has is the answer shown. */

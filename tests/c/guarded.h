@@ -37,15 +37,6 @@ static FILE *open_lines(const char *path) {
     exit(2);
 }
 
-/* Adds the numbers of a word, `N` or `NxK` for K times N, and gives how many there are now; one below zero by its bits. */
-static size_t add_numbers(uint32_t *numbers, size_t count, size_t most, const char *word) {
-    char *end;
-    uint32_t number = (uint32_t)strtoll(word, &end, 10);
-    size_t times = *end == 'x' ? strtoul(end + 1, NULL, 10) : 1;
-    for (size_t i = 0; i < times && count < most; i++) numbers[count++] = number;
-    return count;
-}
-
 /* Whole pages, and after them one that cannot be touched. */
 typedef struct region {
     char *start;

@@ -8,6 +8,7 @@
 #define _GNU_SOURCE 1
 #include "../../include/cradlekeel.h"
 #include "columns.h"
+#include "files.h"
 
 #include <inttypes.h>
 
@@ -19,7 +20,7 @@ SAME_LAYOUT(sizeof(ck_done) == 16);
 SAME_LAYOUT(offsetof(ck_done, refusal) == 8);
 
 /* The most that a line of the vectors asks for. */
-enum { MOST_BYTES = 1179648, MOST_WRITTEN = 65536, MOST_READ = 4096 };
+enum { MOST_WRITTEN = 65536, MOST_READ = 4096 };
 
 /* --- Numbers of each width ----------------------------------------------------------------------------------------- */
 
@@ -30,9 +31,9 @@ static uint32_t get_number(const void *at, size_t width, size_t i) {
 }
 
 static uint32_t checksum(const void *at, size_t width, size_t count) {
-    uint64_t sum = 0;
-    for (size_t i = 0; i < count; i++) sum = (sum * 1000003 + get_number(at, width, i)) % 4294967291u;
-    return (uint32_t)sum;
+    uint32_t sum = 0;
+    for (size_t i = 0; i < count; i++) sum = with_number(sum, get_number(at, width, i));
+    return sum;
 }
 
 /* --- What is lent, and targets ------------------------------------------------------------------------------------- */
@@ -40,8 +41,7 @@ static uint32_t checksum(const void *at, size_t width, size_t count) {
 /* The columns and the file that are held from line to line. */
 typedef struct held {
     columns list;
-    const uint8_t *file;
-    size_t length;
+    lent_file file;
 } held;
 
 static region file_region, target_regions[COLUMNS], target_file_region;
@@ -53,23 +53,11 @@ static void make_regions(void) {
     target_file_region = make_region(MOST_WRITTEN);
 }
 
-enum { BEFORE = 0xa5 }; /* every byte before a target */
-
 /* A target that holds the pattern. */
 static void *target(const region *r, size_t width, size_t count) {
-    char *at = last_bytes(r, count * width);
-    protect(r, PROT_READ | PROT_WRITE);
-    memset(r->start, BEFORE, (size_t)(at - r->start));
+    void *at = target_room(r, count * width);
     for (size_t i = 0; i < count; i++) put_number(at, width, i, (uint32_t)(7 * i + 3));
     return at;
-}
-
-static void check_before(const region *r, const void *target, const char *line) {
-    for (const char *at = r->start; at < (const char *)target; at++)
-        if ((uint8_t)*at != BEFORE) {
-            fail("written before a target", line);
-            return;
-        }
 }
 
 static ck_done write_held(const held *h, uint8_t *to, size_t room) {
@@ -88,47 +76,22 @@ static ck_done read_into(const uint8_t *file, size_t length, void *const c[COLUM
 
 /* --- The vectors: each line's answer as tests/record_lines.py writes what it expects ------------------------------- */
 
-static void hold_bytes(held *h, const uint8_t *bytes, size_t count) {
-    h->file = (const uint8_t *)lend_bytes(&file_region, bytes, count);
-    h->length = count;
-}
-
-/* A byte of two hexadecimal digits. */
-static uint8_t byte_of(const char *digits) {
-    char both[3] = {digits[0], digits[1], '\0'};
-    return (uint8_t)strtoul(both, NULL, 16);
-}
-
-/* Words of bytes, and `HHxK` for K times a byte. */
-static void hold_file(held *h, char *shown) {
-    static uint8_t bytes[MOST_BYTES];
-    size_t count = 0;
-    for (const char *word; (word = next_word());) {
-        size_t times = strchr(word, 'x') ? strtoul(strchr(word, 'x') + 1, NULL, 10) : 0;
-        if (times > MOST_BYTES - count || strlen(word) / 2 > MOST_BYTES - count) exit(2);
-        if (times) memset(bytes + count, byte_of(word), times), count += times;
-        for (; !times && *word; word += 2) bytes[count++] = byte_of(word);
-    }
-    hold_bytes(h, bytes, count);
-    sprintf(shown, "%zu\n", count);
-}
-
 static void write_line(held *h, char *shown, const char *line) {
     size_t room = next_size();
     uint8_t *to = (uint8_t *)target(&target_file_region, 1, room);
     ck_done done = write_held(h, to, room);
     check_before(&target_file_region, to, line);
     sprintf(shown, "%u %zu %" PRIu32 "\n", done.refusal, done.count, checksum(to, 1, room));
-    if (done.refusal == CK_ACCEPTED && done.count <= room) hold_bytes(h, to, done.count);
+    if (done.refusal == CK_ACCEPTED && done.count <= room) h->file = lend_file(&file_region, to, done.count);
 }
 
 static void form_line(const held *h, char *shown) {
-    ck_done done = ck_check_file(h->file, h->length);
+    ck_done done = ck_check_file(h->file.at, h->file.length);
     sprintf(shown, "%u %zu\n", done.refusal, done.count);
 }
 
 static void record_line(const held *h, char *shown) {
-    ck_record r = ck_record_at(h->file, h->length, next_size());
+    ck_record r = ck_record_at(h->file.at, h->file.length, next_size());
     sprintf(shown, "%" PRIu32 " %" PRIu32 " %u %u %u %d %u %u\n", r.u, r.v, r.place, r.low, r.high, r.duv, r.steps, r.class_index);
 }
 
@@ -139,7 +102,7 @@ static void read_line(const held *h, char *shown, const char *line) {
         rooms[k] = next_size();
         to[k] = target(&target_regions[k], WIDTHS[k], rooms[k]);
     }
-    ck_done done = read_into(h->file, h->length, to, rooms);
+    ck_done done = read_into(h->file.at, h->file.length, to, rooms);
     shown += sprintf(shown, "%u %zu", done.refusal, done.count);
     for (int k = 0; k < COLUMNS; k++) {
         check_before(&target_regions[k], to[k], line);
@@ -161,7 +124,7 @@ static int kind_of(const char *word) {
 static void run_line(held *h, int kind, const char *expected, const char *line) {
     char shown[256] = "";
     if (kind == COLUMN_LINE) hold_column(&h->list, shown, line);
-    if (kind == FILE_LINE) hold_file(h, shown);
+    if (kind == FILE_LINE) h->file = hold_file(&file_region, shown);
     if (kind == WRITE_LINE) write_line(h, shown, line);
     if (kind == FORM_LINE) form_line(h, shown);
     if (kind == RECORD_LINE) record_line(h, shown);
@@ -195,7 +158,7 @@ static void expect(ck_done found, uint8_t refusal, size_t count, const char *wha
 static void without_a_list(void) {
     static const uint32_t numbers[1] = {1};
     static const uint8_t empty[] = {18, 0, 0, 0, 0, 0, 0, 0};
-    held none = {{{NULL}, {0}}, NULL, 0};
+    held none = {{{NULL}, {0}}, {NULL, 0}};
     void *const no_columns[COLUMNS] = {NULL};
     uint8_t *to = (uint8_t *)target(&target_file_region, 1, 8);
     expect(write_held(&none, NULL, 0), CK_NO_ROOM, 0, "NULL for everything");
@@ -223,7 +186,7 @@ static void columns_that_are_one(void) {
     static const uint8_t expected[] = {4, 3, 2, 1, 4, 3, 2, 1, 6, 5, 6, 5, 6, 5, 0xfe, 0xff, 9, 9,
                                        0xd0, 0xc0, 0xb0, 0xa0, 0xd0, 0xc0, 0xb0, 0xa0, 0xf0, 0xe0, 0xf0, 0xe0, 0xf0, 0xe0, 8, 7, 255, 255,
                                        18, 0, 2, 0, 36, 0, 0, 0};
-    held one = {{{wide, wide, middle, middle, middle, duv, narrow, narrow}, {2, 2, 2, 2, 2, 2, 2, 2}}, NULL, 0};
+    held one = {{{wide, wide, middle, middle, middle, duv, narrow, narrow}, {2, 2, 2, 2, 2, 2, 2, 2}}, {NULL, 0}};
     uint8_t *to = (uint8_t *)target(&target_file_region, 1, sizeof expected);
     expect(write_held(&one, to, sizeof expected), CK_ACCEPTED, sizeof expected, "columns that are one");
     if (memcmp(to, expected, sizeof expected) != 0) fail("columns that are one", "another file");

@@ -1,2 +1,3 @@
 pub mod Plain
 pub mod PlainBoards
+pub mod PlainComparison
