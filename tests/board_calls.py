@@ -2,15 +2,12 @@
 ten numbers of its lot. The structures are written from include/cradlekeel.h apart from those of the package."""
 
 import ctypes
-import os
 import struct
-from functools import lru_cache
-from pathlib import Path
 from typing import NamedTuple
 
+import c_library
 from record_calls import Difference, expect
 
-ROOT = Path(__file__).resolve().parent.parent
 SLOTS = 64
 U8, U16, U32, SIZE = ctypes.c_uint8, ctypes.c_uint16, ctypes.c_uint32, ctypes.c_size_t
 COLUMNS = U32, U32, U16, U16, U16, ctypes.c_int16, U8, U8
@@ -53,19 +50,15 @@ assert list(map(ctypes.sizeof, (CLot, CBoard, CTold, CAnswer))) == [28, 1800, 32
 assert NUMBERS.size == WITH_GAPS.size == ctypes.sizeof(CLot)
 
 TAKEN = {
-    "ck_board_load": [part for kind in COLUMNS for part in (ctypes.POINTER(kind), SIZE)],
-    "ck_board_read": [CBoard, SIZE],
-    "ck_board_assign": [CBoard, SIZE, U16, U32],
+    "ck_board_load": tuple(part for kind in COLUMNS for part in (ctypes.POINTER(kind), SIZE)),
+    "ck_board_read": (CBoard, SIZE),
+    "ck_board_assign": (CBoard, SIZE, U16, U32),
 }
 NAMES = {"r": "ck_board_read", "a": "ck_board_assign"}  # by the letters of the lines `board`
 
 
-@lru_cache(maxsize=None)
 def function(name):
-    path = Path(os.environ.get("CRADLEKEEL_LIBRARY") or ROOT / "target/lib/libcradlekeel.so").resolve()
-    found = ctypes.CDLL(str(path))[name]
-    found.argtypes, found.restype = TAKEN[name], CAnswer
-    return found
+    return c_library.typed(name, TAKEN[name], CAnswer)
 
 
 # --- Boards and answers as numbers ------------------------------------------------------------------------------------

@@ -11,7 +11,7 @@ import board_table
 from board_lines import LARGEST_STAMP, board_line
 from board_table import LAST_STAMP, STALE_STAMP, Lot, Told
 from dice import Dice
-from record_cases import DUVS, EXTREMES, UNLIKE, WRAPPED, columns_of, flat, random_records, streaks, with_field
+from record_cases import DUVS, EXTREMES, ONES, UNLIKE, WRAPPED, ZEROS, columns_of, flat, random_records, streaks, with_field
 from record_lines import BITS, LETTERS, LONGEST_LINE, MOST_NUMBERS, SIGNED, Held, changes, column_line
 
 KINDS = ("board",)
@@ -145,8 +145,7 @@ def extreme_records(others):
 
 def field_cases(dice):
     """64 lots with each field at its extremes, beside zeros, beside ones in every bit, and beside bytes that all differ."""
-    ones = tuple(-1 if letter in SIGNED else 2 ** BITS[letter] - 1 for letter in LETTERS)
-    for others in ((0,) * 8, ones, UNLIKE):
+    for others in (ZEROS, ONES, UNLIKE):
         yield walked(columns_of(list(extreme_records(others))), MOST_LOTS, dice)
 
 

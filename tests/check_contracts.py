@@ -20,7 +20,7 @@ sys.dont_write_bytecode = True
 from check_trace import TRACE, named_functions
 from rattle_source import functions, functions_of, library_crates
 
-ENTRY_CRATES = ("board", "cct", "cct_c", "kept", "records", "text")
+ENTRY_CRATES = ("board", "cct", "cct_c", "compare", "kept", "records", "text")
 
 # Functions with a `requires`, and why.
 REQUIRES = {

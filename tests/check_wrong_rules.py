@@ -5,8 +5,8 @@
 The first six are the mistakes that document 01 warns of; the others are near misses that its rules, and those of document 02,
 leave room for. Those of spectral samples are tried on the vectors of samples, those of the locus on the vectors of places and of
 the search, those of record files on the vectors of record files, those of the root on the vectors of roots, those of boards on the
-vectors of boards, those of the text program on the first lines of its committed input, then on more, and at last on all of it, and
-the others on the vectors of neither samples nor places nor record files nor roots nor boards. A wrong rule with which the reference
+vectors of boards, those of comparisons on the vectors of comparisons, those of the text program on the first lines of its committed
+input, then on more, and at last on all of it, and the others on the vectors of none of these. A wrong rule with which the reference
 cannot go on shows nothing, and ends the check."""
 
 import re
@@ -22,6 +22,8 @@ sys.path.insert(0, str(Path(__file__).resolve().parent))
 
 import board_cases
 import board_table
+import compare_lines
+import file_differences
 import record_cases
 import record_files
 import record_lines
@@ -34,6 +36,7 @@ from floats import exact_value, is_finite
 from hard_floats import single_precision_product
 from wrong_below_zero_rules import WRONG_BELOW_ZERO_RULES
 from wrong_board_rules import WRONG_BOARD_RULES
+from wrong_compare_rules import WRONG_COMPARE_RULES, WRONG_FORM_RULES
 from wrong_locus_rules import WRONG_LOCUS_RULES, halves_down
 from wrong_record_rules import WRONG_RECORD_RULES
 from wrong_root_rules import WRONG_ROOT_RULES, rounded_to_nearest
@@ -216,7 +219,7 @@ def forget():
 
 @contextmanager
 def put_in(part, name, wrong):
-    """The reference, or its part for record files or boards, with one wrong rule."""
+    """The reference, or its part for record files, boards or comparisons, with one wrong rule."""
     right = getattr(part, name)
     setattr(part, name, wrong)
     forget()
@@ -231,12 +234,12 @@ PLACE_KINDS = ("point", "points")
 
 
 def shown(line, held):
-    """A vector's line; for spectral samples the lists that it is about too, and for record files and boards the columns and the
-    file."""
+    """A vector's line; for spectral samples the lists that it is about too, and for record files, boards and comparisons the columns
+    and the files."""
     kind, about = vectors.kind_of(line), []
     if kind in sample_cases.KINDS:
         about = [text.removeprefix("list ") for text in sample_lists.changes(sample_lists.Lists(), held)]
-    if kind in record_cases.KINDS + board_cases.KINDS:
+    if kind in vectors.FILE_KINDS:
         about = [text.removeprefix("column ") for text in record_lines.changes(record_lines.Held(), held)]
     return ", ".join([line, *about])
 
@@ -307,21 +310,24 @@ def main():
     of_files = of_kinds(committed, lambda kind: kind in record_cases.KINDS)
     of_roots = of_kinds(committed, lambda kind: kind in root_cases.KINDS)
     of_boards = of_kinds(committed, lambda kind: kind in board_cases.KINDS)
-    apart = (*PLACE_KINDS, *sample_cases.KINDS, *record_cases.KINDS, *root_cases.KINDS, *board_cases.KINDS)
+    of_comparisons = of_kinds(committed, lambda kind: kind in compare_lines.KINDS)
+    apart = (*PLACE_KINDS, *sample_cases.KINDS, *root_cases.KINDS, *vectors.FILE_KINDS)
     others = of_kinds(committed, lambda kind: kind not in apart)
     assert first_caught_text(texts) is None, "the right rules give another output"
-    assert first_caught(of_samples + of_locus + of_files + of_roots + of_boards) is None, "the right rules give another answer"
+    apart_from_others = of_samples + of_locus + of_files + of_roots + of_boards + of_comparisons
+    assert first_caught(apart_from_others) is None, "the right rules give another answer"
     missed = missed_of(WRONG_RULES + WRONG_BELOW_ZERO_RULES, lambda: first_caught(others))
     missed += missed_of(WRONG_LOCUS_RULES, lambda: first_caught(of_locus))
     missed += missed_of(WRONG_SAMPLE_RULES, lambda: first_caught(of_samples))
     missed += missed_of(WRONG_RECORD_RULES, lambda: first_caught(of_files), record_files)
     missed += missed_of(WRONG_ROOT_RULES, lambda: first_caught(of_roots))
     missed += missed_of(WRONG_BOARD_RULES, lambda: first_caught(of_boards), board_table)
+    missed += missed_of(WRONG_COMPARE_RULES + WRONG_FORM_RULES, lambda: first_caught(of_comparisons), file_differences)
     missed += missed_of(WRONG_TEXT_RULES, lambda: first_caught_text(texts))
     if missed:
         sys.exit("check_wrong_rules: not caught: " + ", ".join(missed))
     groups = (WRONG_RULES, WRONG_BELOW_ZERO_RULES, WRONG_LOCUS_RULES, WRONG_SAMPLE_RULES, WRONG_RECORD_RULES, WRONG_ROOT_RULES,
-              WRONG_BOARD_RULES, WRONG_TEXT_RULES)
+              WRONG_BOARD_RULES, WRONG_COMPARE_RULES, WRONG_FORM_RULES, WRONG_TEXT_RULES)
     print("check_wrong_rules: all %d wrong rules are caught" % sum(map(len, groups)))
 
 

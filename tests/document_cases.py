@@ -1,10 +1,11 @@
 """Document 01's own cases, typed in from the document and never from our program's output: the listing, the (P) cases and the
-"Also run" list; and cases of document 02's No. 1 to 4 and 6, worked out apart from the reference. `check()` holds it to them all."""
+"Also run" list; and cases of document 02's No. 1 to 4, 6 and 7, worked out apart from the reference. `check()` holds it to them all."""
 
 from fractions import Fraction
 from itertools import product
 
 import board_table
+import file_differences
 import record_files
 import reference as ref
 from floats import NEGATIVE_INFINITY, QUIET_NAN, nearest_f32
@@ -116,6 +117,35 @@ UNREADABLE_FILES = (
 
 # How many records, the target's room in bytes, and the refusal's number, 0 where they are written.
 UNWRITTEN_FILES = ((0, 8, 0), (0, 7, 12), (3600, 64_808, 0), (3600, 64_807, 12), (3601, 64_826, 11), (3601, 0, 11), (65_536, 8, 11))
+
+# The file of lines 1 and 2 of the listing as the bench keeps it, with another Duv and class in record 1 and a record of zeros more.
+BENCH_FILE = ("a6 e7 03 00 46 55 05 00 50 8d 38 83 68 97 00 00 00 01 a4 58 03 00 bc fd 04 00 d8 5a c0 50 f0 64 2b 09 00 03 " + "00 " * 18 +
+              "12 00 03 00 36 00 00 00")
+
+# Two files, and all entries of comparing them.
+COMPARED_FILES = (
+    (EMPTY_FILE, EMPTY_FILE, ()),
+    (BENCH_FILE, BENCH_FILE, ()),
+    (RECORD_FILES[2][1], BENCH_FILE, ((1, 5, -2347, 2347), (1, 7, 255, 3), (2, 9, 0, 0))),
+    (BENCH_FILE, RECORD_FILES[2][1], ((1, 5, 2347, -2347), (1, 7, 3, 255), (2, 8, 0, 0))),
+    (RECORD_FILES[1][1], RECORD_FILES[2][1],
+     ((0, 0, 16_909_060, 255_910), (0, 1, 84_281_096, 349_510), (0, 2, 2314, 36_176), (0, 3, 2828, 33_592), (0, 4, 3343, 38_760),
+      (0, 5, -2, 0), (0, 6, 14, 0), (0, 7, 255, 1), (1, 9, 0, 0))),
+    (BENCH_FILE, EMPTY_FILE, ((0, 8, 0, 0), (1, 8, 0, 0), (2, 8, 0, 0))),
+)
+
+# Two files, the room in numbers, which file is refused, and the refusal's number.
+UNCOMPARED_FILES = (
+    ("", "", 0, (1, 13)),
+    ("00 00 00 00 00 00 00", "14 00 00 00 00 00 00 00", 4, (1, 13)),
+    ("14 00 00 00 00 00 00 00", "", 4, (1, 14)),
+    ("12 00 01 00 12 00 00 00", EMPTY_FILE, 4, (1, 15)),
+    (EMPTY_FILE, "14 00 00 00 00 00 00 00", 0, (2, 14)),
+    (BENCH_FILE, "12 00 01 00 12 00 00 00", 0, (2, 15)),
+    (EMPTY_FILE, "00 " * 64_818 + "12 00 11 0e 32 fd 00 00", 0, (2, 11)),
+    (RECORD_FILES[2][1], BENCH_FILE, 11, (0, 12)),
+    (BENCH_FILE, EMPTY_FILE, 0, (0, 12)),
+)
 
 # How many records, and the refusal's number, 0 where a board of as many lots is loaded.
 LOADS = ((0, 0), (1, 0), (63, 0), (64, 0), (65, 16), (3600, 16))
@@ -235,6 +265,17 @@ def check_targets():
     assert record_files.read_into([(7, 8)] * 7 + [()], file) == (12, 0, [(7, 8)] * 7 + [()])
 
 
+def check_comparisons():
+    for one, other, entries in COMPARED_FILES:
+        first, second, numbers = bytes.fromhex(one), bytes.fromhex(other), sum(entries, ())
+        for more in ((), (7,), (7, 8, 9, 10, 11)):
+            found = file_differences.compare_into((7,) * len(numbers) + more, first, second)
+            assert found == (0, 0, len(entries), numbers + more), (one, other, found)
+    for one, other, room, (which, refusal) in UNCOMPARED_FILES:
+        found = file_differences.compare_into((7,) * room, bytes.fromhex(one), bytes.fromhex(other))
+        assert found == (which, refusal, 0, (7,) * room), (one[-23:], other[-23:], found)
+
+
 def check_board():
     for count, refusal in LOADS:
         board, told = board_table.load([(1,) * 8] * count)
@@ -264,5 +305,6 @@ def check():
     check_cubics()
     check_record_files()
     check_targets()
+    check_comparisons()
     check_board()
     check_last_stamps()

@@ -95,6 +95,7 @@ def worked_cases(dice):
 
 # --- Fields -----------------------------------------------------------------------------------------------------------
 
+ZEROS, ONES = (0,) * 8, tuple(-1 if letter in SIGNED else 2 ** BITS[letter] - 1 for letter in LETTERS)  # in every bit
 UNLIKE = (0x01020304, 0x05060708, 0x090A, 0x0B0C, 0x0D0E, 0x0F10, 0x11, 0x12)  # no two bytes are alike
 EXTREMES = {
     8: (0, 1, 14, 15, 127, 128, 254, 255),
@@ -111,8 +112,7 @@ def with_field(record, at, number):
 
 def field_cases(dice):
     """Each field at its extremes and about its bytes, beside zeros, beside ones in every bit and beside bytes that all differ."""
-    ones = tuple(-1 if letter in SIGNED else 2 ** BITS[letter] - 1 for letter in LETTERS)
-    for (at, letter), others in product(enumerate(LETTERS), ((0,) * 8, ones, UNLIKE)):
+    for (at, letter), others in product(enumerate(LETTERS), (ZEROS, ONES, UNLIKE)):
         for number in DUVS if letter in SIGNED else EXTREMES[BITS[letter]]:
             yield columns_of([with_field(others, at, number)]), [write_line(26), record_line(0), read_line(1)]
 

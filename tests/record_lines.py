@@ -9,13 +9,13 @@ import core_cases
 import record_files
 from sample_lists import numbers_of, run_texts
 
-# What the program of crates/vectors has room for: bytes of a line, numbers of a column, bytes of the file, bytes that are
-# written and records that are read.
-LONGEST_LINE, MOST_NUMBERS, MOST_BYTES, MOST_WRITTEN, MOST_READ = 8191, 69_136, 1_179_648, 65_536, 4096
+# What the program of crates/vectors has room for: bytes of a line, numbers of a column, bytes of the file and of the first file
+# of a comparison, bytes that are written and records that are read.
+LONGEST_LINE, MOST_NUMBERS, MOST_BYTES, MOST_FIRST_BYTES, MOST_WRITTEN, MOST_READ = 8191, 69_136, 1_179_648, 65_536, 65_536, 4096
 
 
 class Held(NamedTuple):
-    """The eight columns by the letters of the `column` lines, and the file; at first all are empty."""
+    """The eight columns by the letters of the `column` lines, the file, and the first file of a comparison; at first all are empty."""
 
     u: tuple = ()
     v: tuple = ()
@@ -26,13 +26,14 @@ class Held(NamedTuple):
     s: tuple = ()
     c: tuple = ()
     file: bytes = b""
+    first: bytes = b""
 
     @property
     def columns(self):
-        return self[:-1]
+        return self[:-2]
 
 
-LETTERS = Held._fields[:-1]
+LETTERS = Held._fields[:-2]
 BITS = dict(u=32, v=32, p=16, l=16, h=16, d=16, s=8, c=8)
 SIGNED = "d"
 
@@ -70,13 +71,20 @@ def record_line(index):
     return "record %d" % index
 
 
-FORM_LINE = "form"
+FORM_LINE, FIRST_LINE = "form", "first"
+
+
+def file_lines(held, wanted):
+    """The line after which a file is held, where it is not held already."""
+    return [file_line(wanted)] if wanted != held else []
 
 
 def changes(held, wanted):
-    """The lines after which the wanted columns and file are held."""
-    lines = [column_line(letter, getattr(wanted, letter)) for letter in LETTERS if getattr(wanted, letter) != getattr(held, letter)]
-    return lines + ([file_line(wanted.file)] if wanted.file != held.file else [])
+    """The lines after which the wanted columns and files are held."""
+    columns = [column_line(letter, getattr(wanted, letter)) for letter in LETTERS if getattr(wanted, letter) != getattr(held, letter)]
+    if wanted.first == held.first:
+        return columns + file_lines(held.file, wanted.file)
+    return [*columns, *file_lines(held.file, wanted.first), FIRST_LINE, *file_lines(wanted.first, wanted.file)]
 
 
 def bytes_of(words):
@@ -86,12 +94,14 @@ def bytes_of(words):
 
 
 def held_after(line, held):
-    """What is held after a line: a column or the file replaced, or the file written where the writer takes the columns."""
+    """What is held after a line: a column or a file replaced, or the file written where the writer takes the columns."""
     kind, *fields = line.split()
     if kind == "column":
         return held._replace(**{fields[0]: numbers_of(fields[1:])})
     if kind == "file":
         return held._replace(file=bytes_of(fields))
+    if kind == "first":
+        return held._replace(first=held.file)
     if kind == "write":
         refusal, file = record_files.write(record_files.listed(held.columns), int(fields[0]))
         return held if refusal else held._replace(file=file)

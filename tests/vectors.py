@@ -4,6 +4,8 @@ import answer_cases
 import below_zero_cases
 import board_cases
 import board_lines
+import compare_cases
+import compare_lines
 import convert_cases
 import core_cases
 import record_cases
@@ -12,8 +14,10 @@ import root_cases
 import sample_cases
 import sample_lists
 
-SECTIONS = (convert_cases, core_cases, answer_cases, sample_cases, below_zero_cases, record_cases, root_cases, board_cases)
+SECTIONS = (convert_cases, core_cases, answer_cases, sample_cases, below_zero_cases, record_cases, root_cases, board_cases,
+            compare_cases)
 CORE_KINDS = ("point", "points", "entry", "search", "class", "edges")
+FILE_KINDS = record_cases.KINDS + board_cases.KINDS + compare_lines.KINDS  # those that are about the columns and the files held
 
 
 def kind_of(line):
@@ -27,11 +31,11 @@ def lines():
 
 
 def with_held(lines):
-    """Each line with what is held when it is answered: for record files and boards the columns and the file, for any other line
-    the four lists of samples and tables."""
+    """Each line with what is held when it is answered: for record files, boards and comparisons the columns and the files, for any
+    other line the four lists of samples and tables."""
     lists, files = sample_lists.Lists(), record_lines.Held()
     for line in lines:
-        if kind_of(line) in record_cases.KINDS + board_cases.KINDS:
+        if kind_of(line) in FILE_KINDS:
             files = record_lines.held_after(line, files)
             yield line, files
         else:
@@ -45,6 +49,8 @@ def expected(line, held):
         return record_lines.expected(line, held)
     if kind in board_cases.KINDS:
         return board_lines.expected(line, held)
+    if kind in compare_lines.KINDS:
+        return compare_lines.expected(line, held)
     if kind in sample_cases.KINDS:
         return sample_cases.expected(line, held)
     if kind in CORE_KINDS:

@@ -1,5 +1,5 @@
 // Columns of records: numbers that are held in 32 bits, in the types of their fields.
-ghost use Prim.Native.Nat.{_≤_};
+use arith::lesser;
 
 // The lowest 8 bits of a number.
 pub(crate) fn low_8(n: u32) -> u8 {
@@ -18,13 +18,6 @@ pub(crate) fn signed_16(n: u32) -> i16 {
         return bits as i16;
     }
     (bits as i64 - 65536) as i16
-}
-
-// The lesser of two numbers.
-pub(crate) fn lesser(a: usize, b: usize) -> usize
-    ensures { λ r. ⌜ (r ≤ a) × (r ≤ b) ⌝ }
-{
-    if a < b { a } else { b }
 }
 
 // Puts numbers into a column of 8 bits each; answers the part of it that they take.

@@ -2,6 +2,7 @@
 use crate::answers;
 use crate::boards;
 use crate::conversions;
+use crate::differences;
 use crate::fields;
 use crate::files;
 use crate::files::File;
@@ -45,6 +46,10 @@ const READ: u64 = 0x72656164;
 const ROOT: u64 = 0x726f6f74;
 
 const BOARD: u64 = 0x626f617264;
+
+const FIRST: u64 = 0x6669727374;
+
+const COMPARE: u64 = 0x636f6d70617265;
 
 // A command of decimal numbers, or a conversion.
 fn run(
@@ -102,6 +107,20 @@ fn replace_file(
     put::last(out, at, length as u64)
 }
 
+// The line `first`: the file that is held becomes the first one of a comparison.
+fn replace_first(lists: &mut Lists, file: &mut File, out: &mut [u8; 65536], at: usize) -> usize {
+    let length = files::keep_first(file, lists::file_length(lists));
+    lists::set_first_length(lists, length);
+    put::last(out, at, length as u64)
+}
+
+// The line `compare`: the first file and the file that is held, with room for so many numbers.
+fn compare(room: u32, lists: &Lists, file: &File, out: &mut [u8; 65536], at: usize) -> usize {
+    let first = files::first(file, lists::first_length(lists));
+    let second = files::held(file, lists::file_length(lists));
+    differences::compare(first, second, room, out, at)
+}
+
 // A line by its first word, and what follows with the space before it.
 fn run_text(
     command: u64,
@@ -129,6 +148,8 @@ fn run_text(
         READ => files::read(files::held(file, length), values, out, at),
         ROOT => parts::root(fields::long_decimal(text), out, at),
         BOARD => boards::history(text, lists, out, at),
+        FIRST => replace_first(lists, file, out, at),
+        COMPARE => compare(values[0], lists, file, out, at),
         _ => run(command, values, count, lists, out, at),
     }
 }

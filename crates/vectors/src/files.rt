@@ -16,16 +16,42 @@ use refusal::Refusal;
 ghost use Prim.Native.Nat.{_≤_};
 
 // The most bytes of the file that is held: a file of 65,535 records has 1,179,638.
-pub(crate) const SIZE: usize = 1179648;
+const HELD_ROOM: usize = 1179648;
 
+// The most bytes of the first file of a comparison: a file of 3,640 records has 65,528.
+const FIRST_ROOM: usize = 65536;
+
+pub(crate) const SIZE: usize = HELD_ROOM + FIRST_ROOM;
+
+// The file that is held, and after its room the first file of a comparison.
 pub(crate) type File = [u8; SIZE];
 
 // The file that is held, by its length.
 pub(crate) fn held(file: &File, length: u32) -> &[u8] {
     let start = 0;
-    let end = columns::lesser(length as usize, SIZE);
+    let end = arith::lesser(length as usize, HELD_ROOM);
     let all = &file[..];
     &all[start..end]
+}
+
+// The first file of a comparison, by its length.
+pub(crate) fn first(file: &File, length: u32) -> &[u8] {
+    let start = HELD_ROOM;
+    let end = HELD_ROOM + arith::lesser(length as usize, FIRST_ROOM);
+    let all = &file[..];
+    &all[start..end]
+}
+
+// Makes the file that is held, by its length, the first one of a comparison too; answers how many bytes that has. What has no
+// room is dropped.
+pub(crate) fn keep_first(file: &mut File, length: u32) -> u32 {
+    let end = arith::lesser(length as usize, FIRST_ROOM);
+    let mut i = 0;
+    while i < end {
+        file[HELD_ROOM + i] = file[i];
+        i += 1;
+    }
+    end as u32
 }
 
 // Adds a byte to a file of so many bytes; what has no room is dropped.
@@ -34,7 +60,7 @@ fn add(file: &mut File, length: u32, byte: u8) -> u32
     ensures { λ r. ⌜ r ≤ 1179648 ⌝ }
 {
     let end = length as usize;
-    if end >= SIZE {
+    if end >= HELD_ROOM {
         return length;
     }
     file[end] = byte;
@@ -101,7 +127,7 @@ pub(crate) fn replace(file: &mut File, text: &[u8]) -> u32 {
 
 // Replaces the file by the first bytes of a target; answers how many they are.
 fn keep(file: &mut File, target: &[u8; WRITE_ROOM], count: usize) -> u32 {
-    let written = columns::lesser(count, WRITE_ROOM);
+    let written = arith::lesser(count, WRITE_ROOM);
     let mut length = 0;
     let mut i = 0;
     while i < written {

@@ -14,14 +14,16 @@ const SPAN: usize = 1 + ROOM;
 
 const COLUMN_SPAN: usize = 1 + COLUMN_ROOM;
 
-// Where the columns begin, and where the length of the file stands after them.
+// Where the columns begin, and where the lengths of the file and of the first file of a comparison stand after them.
 const COLUMNS: usize = 4 * SPAN;
 
 const FILE_LENGTH: usize = COLUMNS + 8 * COLUMN_SPAN;
 
-pub(crate) const SIZE: usize = FILE_LENGTH + 1;
+const FIRST_LENGTH: usize = FILE_LENGTH + 1;
 
-// The lists, one after another, and the length of the file that is held; zeros hold nothing.
+pub(crate) const SIZE: usize = FIRST_LENGTH + 1;
+
+// The lists, one after another, and the lengths of the files that are held; zeros hold nothing.
 pub(crate) type Lists = [u32; SIZE];
 
 pub(crate) enum List {
@@ -239,4 +241,14 @@ pub(crate) fn file_length(lists: &Lists) -> u32 {
 // Holds a file of so many bytes.
 pub(crate) fn set_file_length(lists: &mut Lists, length: u32) {
     lists[FILE_LENGTH] = length;
+}
+
+// How many bytes the first file of a comparison has.
+pub(crate) fn first_length(lists: &Lists) -> u32 {
+    lists[FIRST_LENGTH]
+}
+
+// Holds a first file of so many bytes.
+pub(crate) fn set_first_length(lists: &mut Lists, length: u32) {
+    lists[FIRST_LENGTH] = length;
 }

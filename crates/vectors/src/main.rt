@@ -4,6 +4,7 @@ mod boards;
 mod columns;
 mod commands;
 mod conversions;
+mod differences;
 mod fields;
 mod files;
 mod lists;

@@ -1,6 +1,5 @@
 // Targets that are written or read into: the pattern that they hold at first, and the checksum of what they hold
 // afterwards.
-use crate::columns;
 use crate::parts;
 use crate::put;
 
@@ -26,7 +25,7 @@ pub(crate) fn pattern() -> Pattern {
 // As many numbers of the pattern as a target has room for.
 pub(crate) fn first(pattern: &Pattern, room: u32) -> &[u32] {
     let start = 0;
-    let end = columns::lesser(room as usize, WRITE_ROOM);
+    let end = arith::lesser(room as usize, WRITE_ROOM);
     let all = &pattern[..];
     &all[start..end]
 }
@@ -50,7 +49,7 @@ pub(crate) fn wide_16(n: u16) -> u32 {
 
 // The checksum of a target of bytes, as far as its room goes.
 pub(crate) fn sum_bytes(target: &[u8; WRITE_ROOM], room: u32) -> u64 {
-    let count = columns::lesser(room as usize, WRITE_ROOM);
+    let count = arith::lesser(room as usize, WRITE_ROOM);
     let mut sum: u64 = 0;
     let mut i = 0;
     while i < count {
@@ -62,7 +61,7 @@ pub(crate) fn sum_bytes(target: &[u8; WRITE_ROOM], room: u32) -> u64 {
 
 // The same for a column of 8 bits each.
 pub(crate) fn sum_8(column: &[u8; READ_ROOM], room: u32) -> u64 {
-    let count = columns::lesser(room as usize, READ_ROOM);
+    let count = arith::lesser(room as usize, READ_ROOM);
     let mut sum: u64 = 0;
     let mut i = 0;
     while i < count {
@@ -74,7 +73,7 @@ pub(crate) fn sum_8(column: &[u8; READ_ROOM], room: u32) -> u64 {
 
 // The same for a column of 16 bits each.
 pub(crate) fn sum_16(column: &[u16; READ_ROOM], room: u32) -> u64 {
-    let count = columns::lesser(room as usize, READ_ROOM);
+    let count = arith::lesser(room as usize, READ_ROOM);
     let mut sum: u64 = 0;
     let mut i = 0;
     while i < count {
@@ -86,7 +85,7 @@ pub(crate) fn sum_16(column: &[u16; READ_ROOM], room: u32) -> u64 {
 
 // The same for a column of 16 bits each, signed.
 pub(crate) fn sum_signed(column: &[i16; READ_ROOM], room: u32) -> u64 {
-    let count = columns::lesser(room as usize, READ_ROOM);
+    let count = arith::lesser(room as usize, READ_ROOM);
     let mut sum: u64 = 0;
     let mut i = 0;
     while i < count {
@@ -98,7 +97,7 @@ pub(crate) fn sum_signed(column: &[i16; READ_ROOM], room: u32) -> u64 {
 
 // The same for a column of 32 bits each.
 pub(crate) fn sum_32(column: &[u32; READ_ROOM], room: u32) -> u64 {
-    let count = columns::lesser(room as usize, READ_ROOM);
+    let count = arith::lesser(room as usize, READ_ROOM);
     let mut sum: u64 = 0;
     let mut i = 0;
     while i < count {
