@@ -24,4 +24,8 @@ def file_of(text):
 def shown(record):
     """A record as `cradlekeel show` prints it."""
     *numbers, cls = record
-    return " ".join(map(str, (*numbers, "-" if cls == ref.NO_CLASS else cls)))
+    return " ".join(map(str, (*numbers, shown_class(cls))))
+
+
+def shown_class(cls):
+    return "-" if cls == ref.NO_CLASS else str(cls)

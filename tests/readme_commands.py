@@ -14,9 +14,10 @@ ROOT = Path(__file__).resolve().parent.parent
 FENCE = re.compile(r"^ *```.*?^ *```[^\n]*$", re.MULTILINE | re.DOTALL)
 INDENT, PROMPT = "    ", "$ "
 NEEDS_LIBRARY = re.compile(
-    r"\b(?:gcc|g\+\+|python3|target/lib|target/lamp|target/samples|target/\w+\.rec|cradlekeel (?:board|save|show|spectrum))(?![\w-])")
+    r"\b(?:gcc|g\+\+|python3|target/lib|target/lamp|target/samples|target/\w+\.rec|cradlekeel (?:board|compare|save|show|spectrum))(?![\w-])")
 LEFT_OUT = ("make lib", ".ci/run")  # tests/run-abi and the gate run these themselves
 PAGES = ("README.md", "docs/FILES.md", "docs/BOARD.md")
+SAVING = (*PAGES, "examples/board.c", "examples/compare.c")  # what tells to save files, the examples in a comment
 FEWEST = 3  # on each page
 PATIENCE = 120  # seconds that one command may take
 
@@ -72,6 +73,17 @@ def page_commands(page):
     return found
 
 
+SAVED = re.compile(r"([^|$*]*)\| bin/cradlekeel save --replace (target/\S+)")
+
+
+def check_saved(texts):
+    """What the texts save under one name is the same, so that they can be followed in any order; how many names there are."""
+    found = {(name, made.strip()) for text in texts for made, name in SAVED.findall(text)}
+    names = [name for name, _ in found]
+    assert len(set(names)) == len(names), f"two things are saved under one name: {sorted(found)}"
+    return len(names)
+
+
 def all_commands():
     """Every command of every page, in its order."""
     return [command for page in PAGES for command in page_commands(page)]
@@ -122,6 +134,7 @@ A sentence with `$ false`, and a block.
 ```
     $ gcc --version && target/lamp
     $ bin/cradlekeel spectrum lamp.csv
+    $ bin/cradlekeel compare bench.rec desk.rec
     $ printf '1 2\\n' | bin/cradlekeel save day.rec
     $ od target/day.rec
     $ bin/cradlekeel board day.rec <<'END'
@@ -131,16 +144,26 @@ A sentence with `$ false`, and a block.
 """
 
 
+def is_refused(check, given):
+    try:
+        check(given)
+    except AssertionError:
+        return True
+    return False
+
+
 def self_test():
-    """The sample is read as it should be, and a wrong output, a wrong status and a command without an end are found."""
+    """The sample is read as it should be, and a wrong output, a wrong status, two files of one name and a command without an end are
+    found."""
     found = commands(SAMPLE)
-    assert [len(command.shown) for command in found] == [2, 0, 3, 0, 0, 0, 0, 1], found
-    assert [command.needs_library for command in found] == [False, False, False, True, True, True, True, True], found
+    assert [len(command.shown) for command in found] == [2, 0, 3, 0, 0, 0, 0, 0, 1], found
+    assert [command.needs_library for command in found] == 3 * [False] + 6 * [True], found
     assert [fault(command) for command in found[:3]] == [None, None, None], found
     assert fault(found[0]._replace(shown=("c",))) and fault(found[2]._replace(text="echo d"))
     assert fault(Command("false", ()))
-    try:
-        commands("    $ echo 'no end\n")
-    except AssertionError:
-        return len(all_commands())
-    raise AssertionError("a command without an end goes unnoticed")
+    assert check_saved((ROOT / name).read_text(encoding="utf-8") for name in SAVING) >= FEWEST
+    saved = "$ echo {} | bin/cradlekeel save --replace target/a.rec\n"
+    assert check_saved([saved.format("a"), 2 * saved.format("a")]) == 1
+    assert is_refused(check_saved, [saved.format("a") + saved.format("b")]), "two files of one name go unnoticed"
+    assert is_refused(commands, "    $ echo 'no end\n"), "a command without an end goes unnoticed"
+    return len(all_commands())

@@ -42,7 +42,7 @@ def left_alone(path):
 
 
 def refused(name, number):
-    return f"cradlekeel: {name}: refusal {number}: {REASONS[number]}".encode()
+    return os.fsencode(f"cradlekeel: {name}: refusal {number}: {REASONS[number]}")
 
 
 # --- What is kept -----------------------------------------------------------------------------------------------------
@@ -485,13 +485,13 @@ EXTREMES = [(0,) * 8, (2**32 - 1, 2**32 - 1, 65_535, 65_535, 65_535, 32_767, 255
             (219300, 327100, 23112, 21892, 23866, -2331, 2, 2), (5, 6, 1, 0, 65_535, -1, 0, 0), (7, 8, 64, 7, 8, 0, 1, 30)]
 
 
-def kelvin(record):
+def kelvin(place):
     """103,360,000 over the place with one decimal, worked out in decimals."""
-    return (Decimal(103_360_000) / record[2]).quantize(Decimal("0.1"), ROUND_HALF_EVEN) if record[2] else "-"
+    return (Decimal(103_360_000) / place).quantize(Decimal("0.1"), ROUND_HALF_EVEN) if place else "-"
 
 
 def shown_lines(records, with_kelvin=False):
-    return "".join(f"{shown(record)} {kelvin(record)}\n" if with_kelvin else f"{shown(record)}\n" for record in records).encode()
+    return "".join(f"{shown(record)} {kelvin(record[2])}\n" if with_kelvin else f"{shown(record)}\n" for record in records).encode()
 
 
 def check_shown(folder):
@@ -560,12 +560,16 @@ def check_show_output(folder):
         expect("a closed standard output", shell(f'"$0" show {words} >&-', cwd=folder), said=no_write + b"Bad file descriptor\n", status=1)
     ran = shell(f'"$0" show {40 * "day.rec "} | head -1; echo ${{PIPESTATUS[0]}}', cwd=folder)
     expect("a reader that leaves after a line", ran, shown_lines(EXTREMES[:1]) + b"141\n")
+    check("a file is printed by one write", count_writes(["show", "day.rec"], folder) == 1, "another number")
+
+
+def count_writes(words, folder):
+    """How many writes to standard output a command makes."""
     counted = "import os, sys; from cradlekeel import __main__; real, calls = os.write, []; " \
               "os.write = lambda *given: (calls.append(given[0]), real(*given))[1]; __main__.main(sys.argv[1:]); sys.exit(calls.count(1))"
-    variables = {**os.environ, "PYTHONPATH": str(ROOT / "python")}
+    options = {"env": {**os.environ, "PYTHONPATH": str(ROOT / "python")}, "cwd": folder, "timeout": PATIENCE}
     with open(os.devnull, "wb") as nowhere:
-        ran = subprocess.run([sys.executable, "-B", "-c", counted, "show", folder / "day.rec"], stdout=nowhere, env=variables, timeout=PATIENCE)
-    check("a file is printed by one write", ran.returncode == 1, ran)
+        return subprocess.run([sys.executable, "-B", "-c", counted, *words], stdout=nowhere, **options).returncode
 
 
 # --- Usage and builds -------------------------------------------------------------------------------------------------
@@ -588,7 +592,7 @@ def check_usage(folder):
             check(f"{name} {words} is wrong usage", told and not ran.stdout and ran.returncode == 2, ran)
     for words, fault in (([], b"no command is named"), (["saev", "a"], b"'saev' is not a command")):
         ran = run(["-B", "-m", "cradlekeel", *words], command=sys.executable, env={**os.environ, "PYTHONPATH": str(ROOT / "python")}, cwd=folder)
-        expect(f"a command {words}", ran, b"", b"cradlekeel: " + fault + b": there are board, save, show, spectrum; see cradlekeel --help\n", 2)
+        expect(f"a command {words}", ran, b"", b"cradlekeel: " + fault + b": there are board, compare, save, show, spectrum; see cradlekeel --help\n", 2)
     check("nothing is made", not os.listdir(folder), os.listdir(folder))
 
 

@@ -1,5 +1,5 @@
 """Correlated colour temperature, Duv and temperature class of one colour reading, answered by Cradlekeel's proved library, files of
-such answers, and a board on which they are assigned to jobs.
+such answers, the differences of two such files, and a board on which the answers are assigned to jobs.
 
 >>> import cradlekeel
 >>> answer = cradlekeel.read_xy(0.3127, 0.3290)
@@ -23,6 +23,12 @@ bytes and do no input or output.
 >>> cradlekeel.read_records(cradlekeel.to_bytes([record])) == [record]
 True
 
+`compare_files` lists the differences of two files: the number of a record, its field, and what each file has there.
+
+>>> file, other = cradlekeel.to_bytes([record]), cradlekeel.to_bytes([record._replace(duv=-2333)])
+>>> cradlekeel.compare_files(file, other)
+[Difference(record=0, field=5, first=-2331, second=-2333)]
+
 A `Board` has up to 64 records as lots that dispatchers assign to jobs. It is a value: each call hands a board back, and with it what the
 call is told. Whoever assigns a lot names the stamp that he saw; if it is not the current one, nothing is stored and he is told.
 
@@ -32,20 +38,21 @@ call is told. Whoever assigns a lot names the stamp that he saw; if it is not th
 >>> told.refusal, told.stamp, board.lots[0].job
 (18, 1, 4711)
 
-A reading that has no answer, and a file that cannot be read, raise `Refusal`; a call on a board raises none, and tells it. A whole number
-that does not fit its bits, as a field of a record has 8, 16 or 32, raises `ValueError`, and what is no whole number there `TypeError`. The
-library writes to nothing that it is given but the target of `write_records`.
+A reading that has no answer, and a file that cannot be read, raise `Refusal`, of two files `FileRefusal`, which says which; a call on a
+board raises none, and tells it. A whole number that does not fit its bits, as a field of a record has 8, 16 or 32, raises `ValueError`,
+and what is no whole number there `TypeError`. The library writes to nothing that it is given but the target of `write_records`.
 """
 
 from ._library import LibraryMissing
 from .boards import Board, Lot, Told
+from .differences import ONLY_FIRST, ONLY_SECOND, Difference, FileRefusal, compare_files
 from .readings import EDGES, REASONS, STEPS, Answer, Refusal, read_micro, read_samples, read_uv, read_uv_prime, read_xy, read_xyz
 from .records import Record, check_file, read_records, record_at, to_bytes, write_records
 from .spectra import BadSpectrum, BelowZero, cie_1931, read_spectrum
 
-__all__ = ["EDGES", "REASONS", "STEPS", "Answer", "BadSpectrum", "BelowZero", "Board", "LibraryMissing", "Lot", "Record", "Refusal", "Told",
-           "check_file", "cie_1931", "read_micro", "read_records", "read_samples", "read_spectrum", "read_uv", "read_uv_prime", "read_xy",
-           "read_xyz", "record_at", "to_bytes", "write_records"]
+__all__ = ["EDGES", "ONLY_FIRST", "ONLY_SECOND", "REASONS", "STEPS", "Answer", "BadSpectrum", "BelowZero", "Board", "Difference", "FileRefusal",
+           "LibraryMissing", "Lot", "Record", "Refusal", "Told", "check_file", "cie_1931", "compare_files", "read_micro", "read_records",
+           "read_samples", "read_spectrum", "read_uv", "read_uv_prime", "read_xy", "read_xyz", "record_at", "to_bytes", "write_records"]
 
-for _public in (Answer, BadSpectrum, BelowZero, Board, LibraryMissing, Lot, Record, Refusal, Told):
+for _public in (Answer, BadSpectrum, BelowZero, Board, Difference, FileRefusal, LibraryMissing, Lot, Record, Refusal, Told):
     _public.__module__ = __name__  # a traceback names them as their users do, as in cradlekeel.Refusal

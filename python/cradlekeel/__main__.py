@@ -4,15 +4,19 @@ for save the program too."""
 import importlib
 import signal
 import sys
+import traceback
 
 from .commands import ANSWERED, FAILED, NOT_RUN, BadFile, Failed, HelpAsked, WrongUsage, say, write_out
 
 COMMANDS = {  # a module of cradlekeel.commands for each
     "board": "a board of the lots in a record file, run by commands",
+    "compare": "the differences of two record files, one to a line",
     "save": "the answers to lines, kept in a record file too",
     "show": "the records of record files, one to a line",
     "spectrum": "the temperature, Duv and class of spectra in a meter's files",
 }
+
+FAILED_AS = {"compare": NOT_RUN}  # the exit status of a failure where it is not FAILED, which there says that the files differ
 
 USAGE = """usage: cradlekeel COMMAND ..
 
@@ -40,10 +44,13 @@ def main(words):
         return NOT_RUN
     except (BadFile, Failed) as error:
         say(error)
-        return FAILED
+        return FAILED_AS.get(name, FAILED)
     except OSError as error:  # the library, the program or a table of data/ is not there
         say(error)
         return NOT_RUN
+    except Exception:  # a fault of ours, or no memory; Python's own status for it would be FAILED
+        traceback.print_exc()
+        return FAILED_AS.get(name, FAILED)
 
 
 def run_command(command, words):

@@ -41,6 +41,12 @@ class Done(ctypes.Structure):
     _fields_ = [("count", ctypes.c_size_t), ("refusal", ctypes.c_uint8)]
 
 
+class Compared(ctypes.Structure):
+    """`ck_compared` of include/cradlekeel.h."""
+
+    _fields_ = [("count", ctypes.c_size_t), ("refusal", ctypes.c_uint8), ("file", ctypes.c_uint8)]
+
+
 class Kept(ctypes.Structure):
     """`ck_kept` of include/cradlekeel.h."""
 
@@ -86,6 +92,7 @@ _FUNCTIONS = {
     "ck_read_micro": _reading(ctypes.c_uint32, ctypes.c_uint32), "ck_read_samples": _reading(*4 * _LIST),
     "ck_write_records": ([*_COLUMNS, *_TARGET], Done), "ck_read_records": ([*_FILE, *_COLUMNS], Done), "ck_check_file": (_FILE, Done),
     "ck_record_at": ([*_FILE, ctypes.c_size_t], StoredRecord), "ck_record_of": ([ctypes.c_uint32, ctypes.c_uint32, WholeAnswer], Kept),
+    "ck_compare_files": ([*_FILE, *_FILE, ctypes.POINTER(ctypes.c_int64), ctypes.c_size_t], Compared),
     "ck_board_load": (_COLUMNS, BoardAnswer), "ck_board_read": ([StoredBoard, ctypes.c_size_t], BoardAnswer),
     "ck_board_assign": ([StoredBoard, ctypes.c_size_t, ctypes.c_uint16, ctypes.c_uint32], BoardAnswer),
 }

@@ -21,7 +21,7 @@ REASONS = {
     9: "the samples, x_bar, y_bar and z_bar must be equally long, from 1 to 471 numbers each",
     10: "a sample is over 16,777,215, or a number of x_bar, y_bar or z_bar is over 4,000,000",
     11: "there are more than 3,600 records, the most that a file holds",
-    12: "the room is too small for the file, or for its records",
+    12: "the room is too small for the file, its records or the differences",
     13: "the file is too short to be a record file: it has fewer than 8 bytes",
     14: "the file is no record file, or was cut short or added to: its last 8 bytes do not begin with the record length 18",
     15: "the file was cut short, damaged or joined to another: its length, or the distance in its last 8 bytes, does not fit its count of records",
@@ -31,8 +31,9 @@ REASONS = {
     19: "the lot's stamp is 65,535, the last one, so nothing more is stored there until the board is loaded anew",
 }
 """What each refusal means. Of a reading, 9 and 10 are tested between 1 and 2, the others in the order of their numbers. 11 to 15 are
-about record files: writing tests 11 and 12, reading 13, 14, 15, 11 and 12, in this order. 16 to 19 are about boards: loading tests 16, a
-read 17, an assignment 17, 18 and 19; they are told and not raised."""
+about record files: writing tests 11 and 12, reading 13, 14, 15, 11 and 12, in this order; comparing tests as reading does, of the first
+file and then of the second, and 12 last. 16 to 19 are about boards: loading tests 16, a read 17, an assignment 17, 18 and 19; they are
+told and not raised."""
 
 KELVIN_PLACES = 103_360_000  # the temperature at a place is this over the place, in kelvin
 NO_CLASS = 255

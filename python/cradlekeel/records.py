@@ -77,7 +77,7 @@ def write_records(records, target):
     >>> write_records([Record(219300, 327100, 23112, 21892, 23866, -2331, 2, 2)], target)
     Traceback (most recent call last):
         ...
-    cradlekeel.Refusal: refusal 12: the room is too small for the file, or for its records
+    cradlekeel.Refusal: refusal 12: the room is too small for the file, its records or the differences
     >>> write_records([Record(219300, 327100, 23112, 21892, 23866, -40000, 2, 2)], target)
     Traceback (most recent call last):
         ...
@@ -117,7 +117,7 @@ def read_records(file, room=MOST_RECORDS):
     """
     room = min(whole("room", room, ctypes.c_size_t), MOST_RECORDS)  # no file that is read has more
     columns = [(kind * room)() for _, kind in _FIELDS]
-    count = _count(_asked("ck_read_records", file, *(part for column in columns for part in (column, room))))
+    count = _count(asked("ck_read_records", {"a file": file}, *(part for column in columns for part in (column, room))))
     return list(map(Record._make, zip(*(column[:count] for column in columns))))
 
 
@@ -131,7 +131,7 @@ def check_file(file):
         ...
     cradlekeel.Refusal: refusal 13: the file is too short to be a record file: it has fewer than 8 bytes
     """
-    return _count(_asked("ck_check_file", file))
+    return _count(asked("ck_check_file", {"a file": file}))
 
 
 def record_at(file, index):
@@ -144,9 +144,9 @@ def record_at(file, index):
         ...
     IndexError: the bytes have no whole record 1
     """
-    if not 0 <= operator.index(index) < _view(file).nbytes // RECORD_BYTES:
+    if not 0 <= operator.index(index) < _view("a file", file).nbytes // RECORD_BYTES:
         raise IndexError(f"the bytes have no whole record {index}")
-    return Record(*numbers_of(_asked("ck_record_at", file, index)))
+    return Record(*numbers_of(asked("ck_record_at", {"a file": file}, index)))
 
 
 def numbers_of(stored):
@@ -161,28 +161,29 @@ def _count(done):
     return done.count
 
 
-def _asked(name, file, *given):
-    """What the C function `name` returns for a file. The bytes are looked at before the library is asked for, and let go whatever
-    happens: an exception would hold them with this call, and a bytearray that is held cannot change its length."""
-    held, length = _as_file(file)
+def asked(name, files, *given):
+    """What the C function `name` returns for files, each with what an error calls it. Their bytes are looked at before the library is
+    asked for, and let go whatever happens: an exception would hold them with this call, and a bytearray that is held cannot change its
+    length."""
+    held = [part for called, file in files.items() for part in _as_file(called, file)]
     try:
-        return c_function(name)(held, length, *given)
+        return c_function(name)(*held, *given)
     finally:
         del held
 
 
-def _view(file):
+def _view(called, file):
     try:
         return memoryview(file)
     except TypeError:
         named = type(file).__name__
-        raise TypeError(f'a file is given by its bytes, as Path("day.rec").read_bytes() has them, not by a {named}') from None
+        raise TypeError(f'{called} is given by its bytes, as Path("day.rec").read_bytes() has them, not by a {named}') from None
 
 
-def _as_file(file):
+def _as_file(called, file):
     """Bytes as C takes them, where they stand and how many they are; copied only where they are neither bytes nor can be written."""
     if not isinstance(file, bytes):
-        view = _view(file)
+        view = _view(called, file)
         if view.c_contiguous and not view.readonly:
             return (ctypes.c_uint8 * view.nbytes).from_buffer(view), view.nbytes
         file = bytes(view)

@@ -17,13 +17,14 @@ Examples:
 
 The class edges are not in the file: those of cradlekeel save are 1600, 2500, 3500, 5000 and 20001 K, and a file of another
 program may have been made with others. Only the form of a file is checked: what its records say is printed as it is, and
-damage inside a record is not noticed. A file that cannot be read is named on standard error with the number of its refusal
-and the reason, and the others are still shown:
+damage inside a record is not noticed. A file that cannot be read is named on standard error with the reason and, where it
+is refused, the number of its refusal, and the others are still shown:
 
   refusal 13: the file is shorter than 8 bytes, 14: it does not tell at its end that a record has 18 bytes,
   15: its length, or the distance at its end, does not fit its count of records, 11: it has more than 3600 records
 
-What is over 1,179,638 bytes has no number: no trailer can tell of so many records, and it is not read to its end.
+A missing file or a folder has no number, nor has what is over 1,179,638 bytes: no trailer can tell of so many records, and it
+is not read to its end.
 
 The first run of bin/cradlekeel show proves and builds the library (make lib, one to two minutes); later ones start at once.
 
@@ -31,8 +32,8 @@ Exit status: 0 every file is shown; 1 a file could not be read, or standard outp
 library is missing.
 """
 
-from .. import Refusal, read_records
-from ..readings import NO_CLASS
+from .. import Refusal, check_file, read_records
+from ..readings import KELVIN_PLACES, NO_CLASS
 from ..records import RECORD_BYTES, TRAILER_BYTES
 from . import BadFile, WrongUsage, bytes_of, each_file, options_of, write_out
 
@@ -50,19 +51,33 @@ def run(words):
 
 def records_of(name):
     """The records of a file."""
+    return read_records(file_of(name))
+
+
+def file_of(name):
+    """The bytes of a record file."""
     held = bytes_of(name, LONGEST + 1)
     if len(held) > LONGEST:
         raise BadFile(f"{name}: over {LONGEST:,} bytes, longer than any record file")
     try:
-        return read_records(held)
+        check_file(held)
     except Refusal as refusal:
         raise BadFile(f"{name}: {refusal}") from None
+    return held
 
 
 def line_of(record):
     *numbers, class_index = record
-    return " ".join(map(str, (*numbers, "-" if class_index == NO_CLASS else class_index)))
+    return " ".join(map(str, (*numbers, shown_class(class_index))))
 
 
 def with_kelvin(record):
-    return f"{line_of(record)} {f'{record.kelvin:.1f}' if record.place else '-'}"  # a file may hold any number
+    return f"{line_of(record)} {kelvin_at(record.place)}"
+
+
+def shown_class(class_index):
+    return "-" if class_index == NO_CLASS else str(class_index)
+
+
+def kelvin_at(place):
+    return f"{KELVIN_PLACES / place:.1f}" if place else "-"  # a file may hold any number
