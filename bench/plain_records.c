@@ -54,8 +54,7 @@ static void put_trailer(uint8_t *to, size_t count) {
     put_4(to, (uint32_t)(CK_RECORD_BYTES * count));
 }
 
-/* How many records the file has, where its form is right. */
-static ck_done check(const uint8_t *file, size_t length) {
+ck_done plain_check_file(const uint8_t *file, size_t length) {
     if (length < CK_TRAILER_BYTES) return refused(CK_NO_TRAILER);
     const uint8_t *trailer = file + (length - CK_TRAILER_BYTES);
     size_t count = get_2(trailer + 2), back = CK_RECORD_BYTES * count;
@@ -65,7 +64,7 @@ static ck_done check(const uint8_t *file, size_t length) {
 }
 
 static ck_done check_room(const uint8_t *file, size_t length, size_t room) {
-    ck_done found = check(file, length);
+    ck_done found = plain_check_file(file, length);
     return found.refusal == CK_ACCEPTED && found.count > room ? refused(CK_NO_ROOM) : found;
 }
 

@@ -16,6 +16,9 @@ typedef ck_done read_records(const uint8_t *file, size_t length, uint32_t *u, si
 write_records plain_write_records;
 read_records plain_read_records;
 
+/* How many records the file has, where its form is right. */
+ck_done plain_check_file(const uint8_t *file, size_t length);
+
 /* A record as it stands in a file, on a machine whose numbers are little-endian. */
 typedef struct __attribute__((packed)) packed_record {
     uint32_t u, v;
