@@ -114,7 +114,7 @@ static const uint8_t LENGTH_OF_20[] = {20, 0, 0, 0, 0, 0, 0, 0}, NO_RECORD_THERE
 typedef struct worked {
     lent_file first, second;
     size_t count;
-    int64_t entries[ROOM]; /* of the first of these the list, in exact room and in more */
+    int64_t entries[ROOM]; /* as many numbers of it as the count says, four to an entry */
 } worked;
 
 static const worked WORKED[] = {

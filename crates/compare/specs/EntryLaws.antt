@@ -1,4 +1,4 @@
--- Laws of the entries of one record that both lists have, and of the records that only one list has.
+-- Laws of a record's fields, of the entries of one record that both lists have, and of the records that only one list has.
 use mathlib.Core.Path.{_≡_, refl, ap, sym, _∙_}
 use mathlib.Core.Bool.{Bool, true, false, cond}
 use mathlib.Core.List.{List, [], _∷_, _++_, map, append-nil, cons-ne-nil, List·Memᴰ, List·Memᴰ·head, List·Memᴰ·tail, List·Memᴰ·not-nil, List·Memᴰ·eq-of-singleton}
@@ -41,7 +41,7 @@ field-length i k x y = go (same x y)
     go true = refl
     go false = refl
 
-pub one-entry : (i k : ℕ) (x y : ℤ) → length (ofField i k x y) ≤ 1
+one-entry : (i k : ℕ) (x y : ℤ) → length (ofField i k x y) ≤ 1
 one-entry i k x y = cond-both (λ (es : List Entry). length es ≤ 1) (same x y) (omega arith) (omega arith)
 
 -- the entries of a record that both lists have

@@ -19,9 +19,10 @@ ghost use Rattle.compare.specs.Code.Puts.{Put, Counted, BothHave};
 // The numbers of an entry.
 const ENTRY_LENGTH: usize = 4;
 
-// The field number of a record that only the first file has, and of one that only the second has.
+// The field number of a record that only the first file has.
 const ONLY_FIRST: usize = 8;
 
+// The field number of a record that only the second file has.
 const ONLY_SECOND: usize = 9;
 
 // What a comparison came to.

@@ -17,7 +17,7 @@ Where only the lengths differ, that line is as in "14 records are the same; 1 on
 Record 0 of FIRST, its first accepted line, is compared with record 0 of SECOND and so on, by their numbers u, v, place, low, high,
 duv, steps and class. u, v and duv are in units of 0.000001. place, low and high are positions on the blackbody locus, low the hot
 end of the range and high the cool one, and have the temperature in kelvin beside them, or - for a place of 0. A class of - is none.
-One of the files may be -, standard input. A name that has a control character is printed in quotes, with escapes.
+One of the files may be -, standard input. In these lines a name that has a control character is in quotes, with escapes.
 
   --plain       four numbers to a line and no other line: record, field, what FIRST has and what SECOND has; fields are 0 u, 1 v,
                 2 place, 3 low, 4 high, 5 duv, 6 steps and 7 class, of which 255 is none; a record that only one file has is

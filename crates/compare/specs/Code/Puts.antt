@@ -1,4 +1,4 @@
--- Entries written into a target, as the functions that write them hand it on.
+-- Entries written into a target, and files whose records are counted, as the functions hand them on.
 use mathlib.Core.Path.{_≡_}
 use mathlib.Core.List.{List}
 use Prim.Native.Nat.{ℕ, _+_, _*_, _≤_}
