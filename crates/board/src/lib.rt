@@ -73,7 +73,7 @@ fn fill(
     place: &[u16],
     low: &[u16],
     high: &[u16],
-    duv: &[i16],
+    duv: &[i32],
     steps: &[u8],
     class: &[u8],
 ) -> Board
@@ -114,7 +114,7 @@ impl Board {
         place: &[u16],
         low: &[u16],
         high: &[u16],
-        duv: &[i16],
+        duv: &[i32],
         steps: &[u8],
         class: &[u8],
     ) -> Answered

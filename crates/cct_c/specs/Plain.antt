@@ -25,7 +25,7 @@ plainOutcome (outcome.Done n) = done n
 
 abbrev pub plainForm : Form → Done
 plainForm (form.Refused r) = refused r
-plainForm (form.Records n) = done n
+plainForm (form.Records long n) = done n
 
 -- the record with a 1, or zeros
 abbrev pub plainKept : Kept → KeptRecord

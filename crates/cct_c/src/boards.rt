@@ -71,7 +71,7 @@ pub extern "C" fn ck_board_load(
     place: &[u16],
     low: &[u16],
     high: &[u16],
-    duv: &[i16],
+    duv: &[i32],
     steps: &[u8],
     class: &[u8],
 ) -> BoardAnswer

@@ -6,12 +6,11 @@ use records::Outcome;
 use records::Record;
 use records::ZERO_RECORD;
 ghost use mathlib.Core.Path.{_≡_};
-ghost use lib.ListN.{length};
-ghost use Rattle.records.specs.Fields.{duvWidth};
-ghost use Rattle.records.specs.Files.{recordAt, formOf};
+ghost use lib.ListN.{length, getD};
+ghost use Rattle.records.specs.Files.{zeroRecord, formOf, recordsOf};
 ghost use Rattle.records.specs.Columns.{columns, sizeOf, listOf};
 ghost use Rattle.records.specs.Transfer.{writeOutcome, written, readOutcome, readInto};
-ghost use Rattle.records.specs.RoundTrips.{ReadsBack, WritesAgain};
+ghost use Rattle.records.specs.RoundTrips.{ReadsBack, FileOfRecords};
 ghost use Rattle.kept.specs.Keeping.{keep};
 ghost use Rattle.cct_c.specs.Plain.{plainOutcome, plainForm, plainKept};
 
@@ -52,7 +51,7 @@ fn plain_form(form: Form) -> Done
             count: 0,
             refusal: refusal.number(),
         },
-        Form::Records(records) => Done {
+        Form::Records(_, records) => Done {
             count: records,
             refusal: 0,
         },
@@ -82,7 +81,7 @@ pub extern "C" fn ck_write_records(
     place: &[u16],
     low: &[u16],
     high: &[u16],
-    duv: &[i16],
+    duv: &[i32],
     steps: &[u8],
     class: &[u8],
     file: &mut [u8],
@@ -104,14 +103,14 @@ pub extern "C" fn ck_read_records(
     place: &mut [u16],
     low: &mut [u16],
     high: &mut [u16],
-    duv: &mut [i16],
+    duv: &mut [i32],
     steps: &mut [u8],
     class: &mut [u8],
 ) -> Done
     ensures outcome { λ r. ⌜ r ≡ plainOutcome (readOutcome (now (file .entry)) (sizeOf (columns (now (u .entry)) (now (v .entry)) (now (place .entry)) (now (low .entry)) (now (high .entry)) (now (duv .entry)) (now (steps .entry)) (now (class .entry))))) ⌝ }
     ensures target { λ _. ⌜ columns (now (u .exit)) (now (v .exit)) (now (place .exit)) (now (low .exit)) (now (high .exit)) (now (duv .exit)) (now (steps .exit)) (now (class .exit)) ≡ readInto (readOutcome (now (file .entry)) (sizeOf (columns (now (u .entry)) (now (v .entry)) (now (place .entry)) (now (low .entry)) (now (high .entry)) (now (duv .entry)) (now (steps .entry)) (now (class .entry))))) (now (file .entry)) (columns (now (u .entry)) (now (v .entry)) (now (place .entry)) (now (low .entry)) (now (high .entry)) (now (duv .entry)) (now (steps .entry)) (now (class .entry))) ⌝ }
     ensures unchanged { λ _. ⌜ now (file .exit) ≡ now (file .entry) ⌝ }
-    ensures again { λ _. ⌜ WritesAgain (readOutcome (now (file .entry)) (sizeOf (columns (now (u .entry)) (now (v .entry)) (now (place .entry)) (now (low .entry)) (now (high .entry)) (now (duv .entry)) (now (steps .entry)) (now (class .entry))))) (now (file .entry)) ⌝ }
+    ensures again { λ _. ⌜ FileOfRecords (readOutcome (now (file .entry)) (sizeOf (columns (now (u .entry)) (now (v .entry)) (now (place .entry)) (now (low .entry)) (now (high .entry)) (now (duv .entry)) (now (steps .entry)) (now (class .entry))))) (now (file .entry)) ⌝ }
 {
     plain_outcome(records::read_records(file, u, v, place, low, high, duv, steps, class))
 }
@@ -125,13 +124,13 @@ pub extern "C" fn ck_check_file(file: &[u8]) -> Done
     plain_form(records::check_form(file))
 }
 
-// Record i of the bytes, from 0.
+// Record i of a file, from 0.
 #[no_mangle]
-pub extern "C" fn ck_record_at(bytes: &[u8], i: usize) -> Record
-    ensures record { λ r. ⌜ r ≡ recordAt duvWidth (now (bytes .entry)) i ⌝ }
-    ensures unchanged { λ _. ⌜ now (bytes .exit) ≡ now (bytes .entry) ⌝ }
+pub extern "C" fn ck_record_at(file: &[u8], i: usize) -> Record
+    ensures record { λ r. ⌜ r ≡ getD (recordsOf (now (file .entry))) i zeroRecord ⌝ }
+    ensures unchanged { λ _. ⌜ now (file .exit) ≡ now (file .entry) ⌝ }
 {
-    records::record_at(bytes, i)
+    records::file_record(file, i)
 }
 
 // The record of a reading's u and v, in micro, and its answer.

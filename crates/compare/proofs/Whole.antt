@@ -4,26 +4,26 @@ use mathlib.Core.List.{List, _++_}
 use Prim.Native.Nat.{ℕ, _+_, _-_, _*_, _≤_, min}
 use native.Mathlib.Omega.{arith}
 use lib.ListN.{length, length-append}
-use Rattle.records.specs.Fields.{duvWidth}
-use Rattle.records.specs.Files.{mostRecords, countIn}
-use Rattle.records.specs.FilesLaws.{length-records-in}
+use Rattle.records.specs.Files.{mostRead, recordLengthIn, recordsOf}
+use Rattle.records.specs.RefusalLaws.{most-read}
+use Rattle.records.specs.RoundTripLaws.{length-records}
 use Rattle.compare.specs.Differences.{fieldCount, onlyFirst, onlySecond, inStep, ofRecord, extra, beyond, differences}
 use Rattle.compare.specs.InStepLaws.{in-step-short, in-step-length}
 use Rattle.compare.specs.EntryLaws.{record-length, extra-length}
 use Rattle.compare.specs.RuleLaws.{most-listed}
-use Rattle.compare.specs.Comparison.{recordsOf, fileDifferences}
+use Rattle.compare.specs.Comparison.{fileDifferences}
 use Rattle.compare.specs.Code.Puts.{Counted, BothHave}
 use Rattle.compare.proofs.Files.{firsts, length-firsts}
 
-module _ {a b : List ℕ} {m n : ℕ} (k : Counted a b m n) (both : ℕ) (e : both ≡ min m n) where
-  pub both-have : BothHave a b both
-  both-have = record { first = k .first; second = k .second; in-first = omega (arith, k .in-first); in-second = omega (arith, k .in-second) }
+module _ {a b : List ℕ} {i j m n : ℕ} (k : Counted a b i j m n) (both : ℕ) (e : both ≡ min m n) where
+  pub both-have : BothHave a b i j both
+  both-have = record { files = k .files; in-first = omega (arith, k .in-first); in-second = omega (arith, k .in-second) }
 
   length-first : length (recordsOf a) ≡ m
-  length-first = length-records-in duvWidth (countIn a) a ∙ k .in-first
+  length-first = length-records a (k .files .first) ∙ k .in-first
 
   length-second : length (recordsOf b) ≡ n
-  length-second = length-records-in duvWidth (countIn b) b ∙ k .in-second
+  length-second = length-records b (k .files .second) ∙ k .in-second
 
   pub parts : fileDifferences a b ≡ inStep ofRecord 0 (firsts both a) (firsts both b) ++ (extra onlyFirst n (m - n) ++ extra onlySecond m (n - m))
   unfolding fileDifferences differences beyond
@@ -36,8 +36,8 @@ module _ {a b : List ℕ} {m n : ℕ} (k : Counted a b m n) (both : ℕ) (e : bo
   -- no more than all that could differ
   pub parts-most : length (fileDifferences a b) ≤ fieldCount * both + ((m - both) + (n - both))
   parts-most =
-      omega (arith, parts-length, e, in-step-length ofRecord fieldCount record-length 0 both (firsts both a) (firsts both b) (omega (arith, length-firsts both a (both-have .in-first))))
+      omega (arith, parts-length, e, in-step-length ofRecord fieldCount record-length 0 both (firsts both a) (firsts both b) (omega (arith, length-firsts both a (k .files .first) (both-have .in-first))))
 
-pub few : {a b : List ℕ} {m n : ℕ} → Counted a b m n → (m ≤ mostRecords) × (n ≤ mostRecords) × (length (fileDifferences a b) ≤ fieldCount * mostRecords)
+pub few : {a b : List ℕ} {j k m n : ℕ} → Counted a b j k m n → (m ≤ mostRead) × (n ≤ mostRead) × (length (fileDifferences a b) ≤ fieldCount * mostRead)
 few {a} {b} k =
-    (omega (arith, k .in-first, k .first .few), omega (arith, k .in-second, k .second .few), most-listed a b (k .first) (k .second))
+    (omega (arith, k .in-first, k .files .first .few, most-read (recordLengthIn a)), omega (arith, k .in-second, k .files .second .few, most-read (recordLengthIn b)), most-listed a b (k .files .first) (k .files .second))

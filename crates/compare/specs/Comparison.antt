@@ -1,4 +1,4 @@
--- What a comparison of two files answers, and what its target holds afterwards (document 02, No. 7). Definitions only.
+-- What a comparison of two files answers, and what its target holds afterwards (document 02, No. 7 and No. 8). Definitions only.
 use mathlib.Core.Bool.{cond}
 use mathlib.Core.List.{List}
 use Prim.Native.Nat.{ℕ, _*_}
@@ -6,19 +6,13 @@ use lib.Dec.{leb}
 use lib.IntN.{ℤ}
 use lib.ListN.{length}
 use Rattle.refusal.specs.declared.Refusal.the-variants.{NoRoom}
-use Rattle.records.specs.Fields.{duvWidth}
-use Rattle.records.specs.Files.{recordsIn, countIn, formOf}
+use Rattle.records.specs.Files.{formOf, recordsOf}
 use Rattle.records.specs.Columns.{over}
-use Rattle.records.specs.declared.fields.Record.{Record}
 use Rattle.records.specs.declared.files.Form.{Form}
 use Rattle.records.specs.declared.files.Form.the-variants as form
 use Rattle.compare.specs.Differences.{Entry, differences, numbers}
 use Rattle.compare.specs.declared.Compared.{Compared}
 use Rattle.compare.specs.declared.Compared.the-variants.{FirstRefused, SecondRefused, Refused, Listed}
-
--- the records of a file that can be read
-abbrev pub recordsOf : List ℕ → List Record
-recordsOf l = recordsIn duvWidth (countIn l) l
 
 -- the differences of two files that can be read
 unfoldable pub fileDifferences : (first second : List ℕ) → List Entry
@@ -35,8 +29,8 @@ listOutcome n room = cond (leb (entryLength * n) room) (Listed n) (Refused NoRoo
 -- before it stands the refusal of a file that cannot be read, and the first file's stands before the second's
 abbrev pub formsOutcome : (first second : Form) (n room : ℕ) → Compared
 formsOutcome (form.Refused r) g n room = FirstRefused r
-formsOutcome (form.Records k) (form.Refused r) n room = SecondRefused r
-formsOutcome (form.Records k) (form.Records l) n room = listOutcome n room
+formsOutcome (form.Records h k) (form.Refused r) n room = SecondRefused r
+formsOutcome (form.Records h k) (form.Records j l) n room = listOutcome n room
 
 -- the answer for two files and a target with this room
 unfoldable pub compareOutcome : (first second : List ℕ) (room : ℕ) → Compared

@@ -9,14 +9,15 @@ use lib.IntN.{ℤ}
 use lib.ListN.{length, take, drop, length-drop, length-map}
 use lib.Seq.{drop-append-le, take-append-le, drop-append-seam}
 use borrow.Author.Tests.{leb-true, leb-false, le-leb, lt-leb}
+use Rattle.records.specs.BytesLaws.{Bytes}
 use Rattle.records.specs.Fields.{duvWidth}
-use Rattle.records.specs.Files.{mostRecords, countIn}
-use Rattle.records.specs.FilesLaws.{length-records-in}
+use Rattle.records.specs.Files.{mostWritten, mostRead, fileOf, recordLengthIn, countIn, recordsOf}
+use Rattle.records.specs.RoundTripLaws.{length-records, read-again}
 use Rattle.records.specs.Conditions.{Readable}
-use Rattle.records.specs.RefusalLaws.{condition-form, readable-form, FormDecided, refusal, readable, form-decided}
+use Rattle.records.specs.RefusalLaws.{most-read, condition-form, readable-form, FormDecided, refusal, readable, form-decided}
 use Rattle.compare.specs.Differences.{fieldCount, numbers}
-use Rattle.compare.specs.DifferenceLaws.{swapped, most-differences, numbers-length, entry-numbers}
-use Rattle.compare.specs.Comparison.{recordsOf, fileDifferences, entryLength, compareOutcome, listedInto}
+use Rattle.compare.specs.DifferenceLaws.{same-none, swapped, most-differences, numbers-length, entry-numbers}
+use Rattle.compare.specs.Comparison.{fileDifferences, entryLength, compareOutcome, listedInto}
 use Rattle.compare.specs.Rules.{entryAt, otherWay, Rule, bad-first, bad-second, no-room, listed-all}
 use Rattle.compare.specs.declared.Compared.{Compared}
 use Rattle.compare.specs.declared.Compared.the-variants.{Listed}
@@ -41,11 +42,11 @@ module _ (a b : List ℕ) (room : ℕ) where
       go (readable k) (readable l) false s = given (no-room k l (leb-false (entryLength * length (fileDifferences a b)) room s))
       go (readable k) (readable l) true s = given (listed-all k l (leb-true (entryLength * length (fileDifferences a b)) room s))
 
--- two files have at most 28,800 differences
-pub most-listed : (a b : List ℕ) → Readable a → Readable b → length (fileDifferences a b) ≤ fieldCount * mostRecords
+-- two files have at most 28,800 differences, whichever record lengths they have
+pub most-listed : (a b : List ℕ) → Readable a → Readable b → length (fileDifferences a b) ≤ fieldCount * mostRead
 unfolding fileDifferences
 most-listed a b k l =
-    most-differences (recordsOf a) (recordsOf b) mostRecords (omega (arith, length-records-in duvWidth (countIn a) a, k .few)) (omega (arith, length-records-in duvWidth (countIn b) b, l .few))
+    most-differences (recordsOf a) (recordsOf b) mostRead (omega (arith, length-records a k, k .few, most-read (recordLengthIn a))) (omega (arith, length-records b l, l .few, most-read (recordLengthIn b)))
 
 -- what the target then holds: the four numbers of entry j from 4·j on, and beyond all entries what it held
 module _ (a b : List ℕ) (old : List ℤ) (n : ℕ) where
@@ -68,3 +69,9 @@ files-swapped a b = swapped (recordsOf a) (recordsOf b)
 pub outcome-swapped : (a b : List ℕ) (room : ℕ) → Readable a → Readable b → compareOutcome b a room ≡ compareOutcome a b room
 unfolding compareOutcome
 outcome-swapped a b room k l = rw (readable-form a k, readable-form b l, files-swapped a b, length-map (fileDifferences a b) otherWay) refl
+
+-- a file of either record length and the one that is written of its records have no difference
+pub rewritten-same : (l : List ℕ) → Bytes l → Readable l → countIn l ≤ mostWritten → fileDifferences l (fileOf duvWidth (recordsOf l)) ≡ []
+unfolding fileDifferences
+rewritten-same l b k few =
+    rw (read-again l b k few .records) (same-none (recordsOf l))

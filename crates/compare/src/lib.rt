@@ -1,4 +1,4 @@
-// The differences of two record files (document 02, No. 7).
+// The differences of two record files (document 02, No. 7 and No. 8).
 mod contents;
 mod entries;
 
@@ -13,7 +13,8 @@ ghost use Prim.Native.Nat.{_*_, _≤_};
 ghost use lib.Dec.{leb};
 ghost use lib.ListN.{length, take};
 ghost use Rattle.compare.specs.Differences.{inStep, ofRecord};
-ghost use Rattle.compare.specs.Comparison.{recordsOf, fileDifferences, entryLength, compareOutcome, listedInto};
+ghost use Rattle.records.specs.Files.{recordsOf};
+ghost use Rattle.compare.specs.Comparison.{fileDifferences, entryLength, compareOutcome, listedInto};
 ghost use Rattle.compare.specs.Code.Puts.{Put, Counted, BothHave};
 
 // The numbers of an entry.
@@ -37,32 +38,46 @@ pub enum Compared {
     Listed(usize),
 }
 
-// How many fields differ in the first n records.
-fn count_records(first: &[u8], second: &[u8], n: usize) -> usize
-    requires { ⌜ BothHave (now first) (now second) n ⌝ }
+// How many fields differ in the first n records of two files, whose records have these lengths.
+fn count_records(
+    first: &[u8],
+    second: &[u8],
+    first_length: usize,
+    second_length: usize,
+    n: usize,
+) -> usize
+    requires { ⌜ BothHave (now first) (now second) «first_length» «second_length» n ⌝ }
     ensures { λ r. ⌜ r ≡ length (inStep ofRecord 0 (take n (recordsOf (now (first .entry)))) (take n (recordsOf (now (second .entry))))) ⌝ }
 {
     let mut count: usize = 0;
     let mut i: usize = 0;
     while i < n {
-        let r = records::record_at(first, i);
-        let s = records::record_at(second, i);
+        let r = records::record_at(first, first_length, i);
+        let s = records::record_at(second, second_length, i);
         count += count_fields(r, s);
         i += 1;
     }
     count
 }
 
-// Writes the entries of the fields that differ in the first n records, from the target's start on; answers where the next entry goes.
-fn put_records(first: &[u8], second: &[u8], n: usize, target: &mut [i64]) -> usize
-    requires { ⌜ BothHave (now first) (now second) n × (entryLength * length (inStep ofRecord 0 (take n (recordsOf (now first))) (take n (recordsOf (now second)))) ≤ length (now target)) ⌝ }
+// Writes the entries of the fields that differ in the first n records of two files, from the target's start on; answers where the next
+// entry goes.
+fn put_records(
+    first: &[u8],
+    second: &[u8],
+    first_length: usize,
+    second_length: usize,
+    n: usize,
+    target: &mut [i64],
+) -> usize
+    requires { ⌜ BothHave (now first) (now second) «first_length» «second_length» n × (entryLength * length (inStep ofRecord 0 (take n (recordsOf (now first))) (take n (recordsOf (now second)))) ≤ length (now target)) ⌝ }
     ensures { λ r. ⌜ Put (now (target .entry)) (now (target .exit)) 0 r (inStep ofRecord 0 (take n (recordsOf (now (first .entry)))) (take n (recordsOf (now (second .entry))))) ⌝ }
 {
     let mut end: usize = 0;
     let mut i: usize = 0;
     while i < n {
-        let r = records::record_at(first, i);
-        let s = records::record_at(second, i);
+        let r = records::record_at(first, first_length, i);
+        let s = records::record_at(second, second_length, i);
         end = put_fields(i, r, s, target, end);
         i += 1;
     }
@@ -70,8 +85,16 @@ fn put_records(first: &[u8], second: &[u8], n: usize, target: &mut [i64]) -> usi
 }
 
 // Whether so many numbers are room for the differences of two files of m and n records.
-fn has_room(first: &[u8], second: &[u8], m: usize, n: usize, room: usize) -> bool
-    requires { ⌜ Counted (now first) (now second) m n ⌝ }
+fn has_room(
+    first: &[u8],
+    second: &[u8],
+    first_length: usize,
+    second_length: usize,
+    m: usize,
+    n: usize,
+    room: usize,
+) -> bool
+    requires { ⌜ Counted (now first) (now second) «first_length» «second_length» m n ⌝ }
     ensures { λ r. ⌜ r ≡ leb (entryLength * length (fileDifferences (now (first .entry)) (now (second .entry)))) room ⌝ }
 {
     let both = arith::lesser(m, n);
@@ -80,30 +103,55 @@ fn has_room(first: &[u8], second: &[u8], m: usize, n: usize, room: usize) -> boo
     if ENTRY_LENGTH * (FIELDS * both + others) <= room {
         return true;
     }
-    ENTRY_LENGTH * (count_records(first, second, both) + others) <= room
+    ENTRY_LENGTH * (count_records(first, second, first_length, second_length, both) + others)
+        <= room
 }
 
 // Writes the differences of two files of m and n records; answers where they end.
-fn put_all(first: &[u8], second: &[u8], m: usize, n: usize, target: &mut [i64]) -> usize
-    requires { ⌜ Counted (now first) (now second) m n × (entryLength * length (fileDifferences (now first) (now second)) ≤ length (now target)) ⌝ }
+fn put_all(
+    first: &[u8],
+    second: &[u8],
+    first_length: usize,
+    second_length: usize,
+    m: usize,
+    n: usize,
+    target: &mut [i64],
+) -> usize
+    requires { ⌜ Counted (now first) (now second) «first_length» «second_length» m n × (entryLength * length (fileDifferences (now first) (now second)) ≤ length (now target)) ⌝ }
     ensures { λ r. ⌜ Put (now (target .entry)) (now (target .exit)) 0 r (fileDifferences (now (first .entry)) (now (second .entry))) ⌝ }
 {
     let both = arith::lesser(m, n);
-    let differing = put_records(first, second, both, target);
+    let differing = put_records(first, second, first_length, second_length, both, target);
     let of_first = put_extra(ONLY_FIRST, n, m, target, differing);
     put_extra(ONLY_SECOND, m, n, target, of_first)
 }
 
 // Lists the differences of two files of m and n records.
-fn list_all(first: &[u8], second: &[u8], m: usize, n: usize, target: &mut [i64]) -> Compared
-    requires { ⌜ Counted (now first) (now second) m n ⌝ }
+fn list_all(
+    first: &[u8],
+    second: &[u8],
+    first_length: usize,
+    second_length: usize,
+    m: usize,
+    n: usize,
+    target: &mut [i64],
+) -> Compared
+    requires { ⌜ Counted (now first) (now second) «first_length» «second_length» m n ⌝ }
     ensures outcome { λ r. ⌜ r ≡ compareOutcome (now (first .entry)) (now (second .entry)) (length (now (target .entry))) ⌝ }
     ensures target { λ r. ⌜ now (target .exit) ≡ listedInto r (now (first .entry)) (now (second .entry)) (now (target .entry)) ⌝ }
 {
-    if !has_room(first, second, m, n, target.len()) {
+    if !has_room(
+        first,
+        second,
+        first_length,
+        second_length,
+        m,
+        n,
+        target.len(),
+    ) {
         return Compared::Refused(Refusal::NoRoom);
     }
-    let end = put_all(first, second, m, n, target);
+    let end = put_all(first, second, first_length, second_length, m, n, target);
     Compared::Listed(end / ENTRY_LENGTH)
 }
 
@@ -115,9 +163,17 @@ pub fn compare_files(first: &[u8], second: &[u8], target: &mut [i64]) -> Compare
 {
     match records::check_form(first) {
         Form::Refused(refusal) => Compared::FirstRefused(refusal),
-        Form::Records(m) => match records::check_form(second) {
+        Form::Records(first_length, m) => match records::check_form(second) {
             Form::Refused(refusal) => Compared::SecondRefused(refusal),
-            Form::Records(n) => list_all(first, second, m, n, target),
+            Form::Records(second_length, n) => list_all(
+                first,
+                second,
+                first_length,
+                second_length,
+                m,
+                n,
+                target,
+            ),
         },
     }
 }

@@ -1,42 +1,75 @@
 -- The form of a file and the record at an index, by the tests that the code makes.
-use mathlib.Core.Path.{_≡_, refl, ap, _∙_}
+use mathlib.Core.Path.{_≡_, refl, ap, sym, _∙_}
 use Prim.Native.Nat.{ℕ, _+_, _-_, _*_, _/_, _≤_, _<_}
 use mathlib.Core.Bool.{true, false, _&&_}
 use mathlib.Core.List.{List}
 use native.Mathlib.Omega.{arith}
 use lib.Dec.{eqb}
-use lib.ListN.{length, take, drop}
+use lib.ListN.{length, take, drop, getD}
 use lib.Seq.{drop-drop}
 use borrow.Author.Tests.{lt-ltb, le-ltb, le-leb, lt-leb, eq-eqb, ne-eqb}
+use Rattle.refusal.specs.declared.Refusal.{Refusal}
 use Rattle.refusal.specs.declared.Refusal.the-variants.{TooManyRecords, NoTrailer, BadRecordLength, BadTrailer}
 use Rattle.records.specs.Bytes.{number}
-use Rattle.records.specs.Fields.{duvWidth, frontRecord}
-use Rattle.records.specs.Files.{zeroRecord, recordAt, trailerForm, formOf}
+use Rattle.records.specs.Fields.{duvWidthOf, frontRecord}
+use Rattle.records.specs.Files.{knownLength, mostRecords, zeroRecord, recordAt, trailerForm, formOf, formRecords, recordsOf}
+use Rattle.records.specs.Conditions.{Known, of-18, of-20}
+use Rattle.records.specs.RefusalLaws.{form-readable}
+use Rattle.records.specs.RoundTripLaws.{readable-record}
 use Rattle.records.specs.declared.fields.Record.{Record}
 use Rattle.records.specs.declared.files.Form.{Form}
 use Rattle.records.specs.declared.files.Form.the-variants.{Refused, Records}
 
-module _ (l : List ℕ) (i : ℕ) where
-  pub at-whole : (r : Record) → i < length l / 18 → r ≡ frontRecord duvWidth (drop (18 * i) l) → r ≡ recordAt duvWidth l i
+module _ (long : ℕ) (l : List ℕ) (i : ℕ) where
+  pub at-unknown : knownLength long ≡ false → zeroRecord ≡ recordAt long l i
   unfolding recordAt
-  at-whole r h e = e ∙ rw (lt-ltb i (length l / 18) h) refl
+  at-unknown e = rw e refl
 
-  pub at-none : length l / 18 ≤ i → zeroRecord ≡ recordAt duvWidth l i
+  pub at-whole : (r : Record) → knownLength long ≡ true → i < length l / long → r ≡ frontRecord (duvWidthOf long) (drop (long * i) l) → r ≡ recordAt long l i
   unfolding recordAt
-  at-none h = rw (le-ltb i (length l / 18) h) refl
+  at-whole r e h f = f ∙ rw (e, lt-ltb i (length l / long) h) refl
+
+  pub at-none : knownLength long ≡ true → length l / long ≤ i → zeroRecord ≡ recordAt long l i
+  unfolding recordAt
+  at-none e h = rw (e, le-ltb i (length l / long) h) refl
+
+-- the most records, by the test of their length
+pub most-earlier : (long : ℕ) → long ≡ 18 → 3600 ≡ mostRecords long
+most-earlier long e = rw (eq-eqb long 18 e) refl
+
+pub most-other : (long : ℕ) → (long ≡ 18 → ⊥) → 3200 ≡ mostRecords long
+most-other long h = rw (ne-eqb long 18 h) refl
+
+pub other-length : (long : ℕ) → Known long → (long ≡ 18 → ⊥) → long ≡ 20
+other-length long (of-18 e) h = absurd (h e)
+other-length long (of-20 e) h = e
+
+-- a record of known length that is whole in the bytes ends in them
+pub ends-within : (long i size : ℕ) → Known long → i < size / long → long * i + long ≤ size
+ends-within long i size (of-18 e) h = let l : i < size / 18 = rw e at h in rw e (omega arith)
+ends-within long i size (of-20 e) h = let l : i < size / 20 = rw e at h in rw e (omega arith)
+
+pub between : (long : ℕ) → Known long → (18 ≤ long) × (long ≤ 20)
+between long (of-18 e) = (omega (arith, e), omega (arith, e))
+between long (of-20 e) = (omega (arith, e), omega (arith, e))
+
+-- what a trailer can tell of is within a word
+pub within-word : (long count : ℕ) → Known long → count < 4294967296 → long * count + 8 < 18446744073709551616
+within-word long count (of-18 e) h = rw e (omega arith)
+within-word long count (of-20 e) h = rw e (omega arith)
 
 module _ (long count back n : ℕ) where
-  pub wrong-length : (long ≡ 18 → ⊥) → Refused BadRecordLength ≡ trailerForm long count back n
-  wrong-length h = rw (ne-eqb long 18 h) refl
+  pub wrong-length : knownLength long ≡ false → Refused BadRecordLength ≡ trailerForm long count back n
+  wrong-length e = rw e refl
 
-  pub wrong-trailer : long ≡ 18 → eqb back (18 * count) && eqb n (back + 8) ≡ false → Refused BadTrailer ≡ trailerForm long count back n
-  wrong-trailer e h = rw (eq-eqb long 18 e, h) refl
+  pub wrong-trailer : knownLength long ≡ true → eqb back (long * count) && eqb n (back + 8) ≡ false → Refused BadTrailer ≡ trailerForm long count back n
+  wrong-trailer e h = rw (e, h) refl
 
-  pub too-many : long ≡ 18 → eqb back (18 * count) && eqb n (back + 8) ≡ true → 3600 < count → Refused TooManyRecords ≡ trailerForm long count back n
-  too-many e h m = rw (eq-eqb long 18 e, h, lt-leb count 3600 m) refl
+  pub too-many : knownLength long ≡ true → eqb back (long * count) && eqb n (back + 8) ≡ true → mostRecords long < count → Refused TooManyRecords ≡ trailerForm long count back n
+  too-many e h m = rw (e, h, lt-leb count (mostRecords long) m) refl
 
-  pub good-trailer : long ≡ 18 → eqb back (18 * count) && eqb n (back + 8) ≡ true → count ≤ 3600 → Records count ≡ trailerForm long count back n
-  good-trailer e h m = rw (eq-eqb long 18 e, h, le-leb count 3600 m) refl
+  pub good-trailer : knownLength long ≡ true → eqb back (long * count) && eqb n (back + 8) ≡ true → count ≤ mostRecords long → Records long count ≡ trailerForm long count back n
+  good-trailer e h m = rw (e, h, le-leb count (mostRecords long) m) refl
 
 module _ (l : List ℕ) where
   pub form-short : length l < 8 → Refused NoTrailer ≡ formOf l
@@ -53,3 +86,12 @@ module _ (l : List ℕ) where
       let k : at + 2 + 2 ≡ at + 4 = omega arith in
       let d2 : drop 2 (drop 2 (drop at l)) ≡ drop (at + 4) l = ap (drop 2) d1 ∙ drop-drop 2 (at + 2) l ∙ ap (λ (j : ℕ). drop j l) k in
       e ∙ rw (le-ltb (length l) 8 h, d2, d1, e1, e2, e3) refl
+
+  -- record i of a file that cannot be read, and of one of this form
+  pub refused-record : (i : ℕ) (r : Refusal) → formOf l ≡ Refused r → zeroRecord ≡ getD (recordsOf l) i zeroRecord
+  unfolding recordsOf
+  refused-record i r e = ap (λ (f : Form). getD (formRecords f l) i zeroRecord) (sym e)
+
+  pub formed-record : (i long n : ℕ) (r : Record) → formOf l ≡ Records long n → r ≡ recordAt long l i → r ≡ getD (recordsOf l) i zeroRecord
+  formed-record i long n r e f =
+      let k = form-readable l long n e in f ∙ ap (λ (m : ℕ). recordAt m l i) (sym (k .1)) ∙ readable-record l i (k .0)

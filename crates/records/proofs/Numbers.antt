@@ -10,7 +10,7 @@ use mir.Syntax.{w8}
 use mir.Val.{Fits}
 use Rattle.records.specs.Bytes.{bytesOf, number, capacity, asSigned}
 use Rattle.records.specs.BytesLaws.{Bytes, bytes-drop, number-fits}
-use Rattle.records.specs.Fields.{duvWidth, frontRecord}
+use Rattle.records.specs.Fields.{frontRecord}
 
 -- with one byte stored, what is left to store comes to the same
 pub put-step : (out : List ℕ) (at i width rest : ℕ) → i < width → sets (set out (at + i) (rest % 256)) (at + (i + 1)) (bytesOf (width - (i + 1)) (rest / 256)) ≡ sets out (at + i) (bytesOf (width - i) rest)
@@ -73,26 +73,26 @@ field-fits w at l h = number-fits w (drop at l) (bytes-drop at l (each-byte l h)
 onward : (m n k : ℕ) (l : List ℕ) {d : List ℕ} → d ≡ drop n l → n + m ≡ k → drop m d ≡ drop k l
 onward m n k l e h = ap (drop m) e ∙ drop-drop m n l ∙ ap (λ (j : ℕ). drop j l) h
 
-pub front-is : (l : List ℕ) (at u v place low high bits steps class : ℕ) (duv : ℤ) → duv ≡ asSigned duvWidth bits → u ≡ number (take 4 (drop at l)) →
+pub front-is : (l : List ℕ) (d at u v place low high bits steps class : ℕ) (duv : ℤ) → duv ≡ asSigned d bits → u ≡ number (take 4 (drop at l)) →
     v ≡ number (take 4 (drop (at + 4) l)) → place ≡ number (take 2 (drop (at + 8) l)) → low ≡ number (take 2 (drop (at + 10) l)) →
-    high ≡ number (take 2 (drop (at + 12) l)) → bits ≡ number (take 2 (drop (at + 14) l)) → steps ≡ number (take 1 (drop (at + 16) l)) →
-    class ≡ number (take 1 (drop (at + 17) l)) →
-    record { u = u; v = v; place = place; low = low; high = high; duv = duv; steps = steps; class = class } ≡ frontRecord duvWidth (drop at l)
+    high ≡ number (take 2 (drop (at + 12) l)) → bits ≡ number (take d (drop (at + 14) l)) → steps ≡ number (take 1 (drop (at + 14 + d) l)) →
+    class ≡ number (take 1 (drop (at + 15 + d) l)) →
+    record { u = u; v = v; place = place; low = low; high = high; duv = duv; steps = steps; class = class } ≡ frontRecord d (drop at l)
 unfolding frontRecord
-front-is l at u v place low high bits steps class duv e e0 e1 e2 e3 e4 e5 e6 e7 =
+front-is l d at u v place low high bits steps class duv e e0 e1 e2 e3 e4 e5 e6 e7 =
     let d1 : drop 4 (drop at l) ≡ drop (at + 4) l = onward 4 at (at + 4) l refl (omega arith) in
     let d2 : drop 4 (drop 4 (drop at l)) ≡ drop (at + 8) l = onward 4 (at + 4) (at + 8) l d1 (omega arith) in
     let d3 : drop 2 (drop 4 (drop 4 (drop at l))) ≡ drop (at + 10) l = onward 2 (at + 8) (at + 10) l d2 (omega arith) in
     let d4 : drop 2 (drop 2 (drop 4 (drop 4 (drop at l)))) ≡ drop (at + 12) l = onward 2 (at + 10) (at + 12) l d3 (omega arith) in
     let d5 : drop 2 (drop 2 (drop 2 (drop 4 (drop 4 (drop at l))))) ≡ drop (at + 14) l = onward 2 (at + 12) (at + 14) l d4 (omega arith) in
-    let d6 : drop 2 (drop 2 (drop 2 (drop 2 (drop 4 (drop 4 (drop at l)))))) ≡ drop (at + 16) l = onward 2 (at + 14) (at + 16) l d5 (omega arith) in
-    let d7 : drop 1 (drop 2 (drop 2 (drop 2 (drop 2 (drop 4 (drop 4 (drop at l))))))) ≡ drop (at + 17) l = onward 1 (at + 16) (at + 17) l d6 (omega arith) in
+    let d6 : drop d (drop 2 (drop 2 (drop 2 (drop 4 (drop 4 (drop at l)))))) ≡ drop (at + 14 + d) l = onward d (at + 14) (at + 14 + d) l d5 refl in
+    let d7 : drop 1 (drop d (drop 2 (drop 2 (drop 2 (drop 4 (drop 4 (drop at l))))))) ≡ drop (at + 15 + d) l = onward 1 (at + 14 + d) (at + 15 + d) l d6 (omega arith) in
     let f1 = e1 ∙ ap (λ (z : List ℕ). number (take 4 z)) (sym d1) in
     let f2 = e2 ∙ ap (λ (z : List ℕ). number (take 2 z)) (sym d2) in
     let f3 = e3 ∙ ap (λ (z : List ℕ). number (take 2 z)) (sym d3) in
     let f4 = e4 ∙ ap (λ (z : List ℕ). number (take 2 z)) (sym d4) in
-    let f5 = e5 ∙ ap (λ (z : List ℕ). number (take 2 z)) (sym d5) in
+    let f5 = e5 ∙ ap (λ (z : List ℕ). number (take d z)) (sym d5) in
     let f6 = e6 ∙ ap (λ (z : List ℕ). number (take 1 z)) (sym d6) in
     let f7 = e7 ∙ ap (λ (z : List ℕ). number (take 1 z)) (sym d7) in
-    let g : duv ≡ asSigned duvWidth (number (take 2 (drop 2 (drop 2 (drop 2 (drop 4 (drop 4 (drop at l)))))))) = e ∙ ap (asSigned duvWidth) f5 in
+    let g : duv ≡ asSigned d (number (take d (drop 2 (drop 2 (drop 2 (drop 4 (drop 4 (drop at l)))))))) = e ∙ ap (asSigned d) f5 in
     λ i. record { u = e0 i; v = f1 i; place = f2 i; low = f3 i; high = f4 i; duv = g i; steps = f6 i; class = f7 i }

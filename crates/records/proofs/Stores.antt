@@ -19,7 +19,7 @@ use Rattle.records.specs.declared.fields.Record.{Record}
 pub record-stored : (o : List ℕ) {o1 o2 o3 o4 o5 o6 o7 o8 : List ℕ} (r : Record) (at n : ℕ) → n ≡ asUnsigned duvWidth (r .duv) →
     o1 ≡ sets o at (bytesOf 4 (r .u)) → o2 ≡ sets o1 (at + 4) (bytesOf 4 (r .v)) → o3 ≡ sets o2 (at + 8) (bytesOf 2 (r .place)) →
     o4 ≡ sets o3 (at + 10) (bytesOf 2 (r .low)) → o5 ≡ sets o4 (at + 12) (bytesOf 2 (r .high)) → o6 ≡ sets o5 (at + 14) (bytesOf duvWidth n) →
-    o7 ≡ sets o6 (at + 16) (bytesOf 1 (r .steps)) → o8 ≡ sets o7 (at + 17) (bytesOf 1 (r .class)) → o8 ≡ sets o at (recordBytes duvWidth r)
+    o7 ≡ sets o6 (at + 18) (bytesOf 1 (r .steps)) → o8 ≡ sets o7 (at + 19) (bytesOf 1 (r .class)) → o8 ≡ sets o at (recordBytes duvWidth r)
 unfolding recordBytes
 record-stored o {o5 = o5} {o6 = o6} r at n e e1 e2 e3 e4 e5 e6 e7 e8 =
     let b1 = bytesOf 4 (r .u) in
@@ -35,25 +35,25 @@ record-stored o {o5 = o5} {o6 = o6} r at n e e1 e2 e3 e4 e5 e6 e7 e8 =
     let s4 = then o at (at + 10) b3 (bytesOf 2 (r .low)) s3 e4 refl in
     let s5 = then o at (at + 12) b4 (bytesOf 2 (r .high)) s4 e5 refl in
     let s6 = then o at (at + 14) b5 (bytesOf duvWidth (asUnsigned duvWidth (r .duv))) s5 f6 refl in
-    let s7 = then o at (at + 16) b6 (bytesOf 1 (r .steps)) s6 e7 refl in
-    then o at (at + 17) b7 (bytesOf 1 (r .class)) s7 e8 refl
+    let s7 = then o at (at + 18) b6 (bytesOf 1 (r .steps)) s6 e7 refl in
+    then o at (at + 19) b7 (bytesOf 1 (r .class)) s7 e8 refl
 
 -- the numbers of a trailer
-pub trailer-stored : (o : List ℕ) {o1 o2 o3 : List ℕ} (at n : ℕ) → o1 ≡ sets o at (bytesOf 2 18) → o2 ≡ sets o1 (at + 2) (bytesOf 2 n) → o3 ≡ sets o2 (at + 4) (bytesOf 4 (18 * n)) → o3 ≡ sets o at (trailerBytes duvWidth n)
+pub trailer-stored : (o : List ℕ) {o1 o2 o3 : List ℕ} (at n : ℕ) → o1 ≡ sets o at (bytesOf 2 20) → o2 ≡ sets o1 (at + 2) (bytesOf 2 n) → o3 ≡ sets o2 (at + 4) (bytesOf 4 (20 * n)) → o3 ≡ sets o at (trailerBytes duvWidth n)
 unfolding trailerBytes
 trailer-stored o at n e1 e2 e3 =
-    let s2 = then o at (at + 2) (bytesOf 2 18) (bytesOf 2 n) e1 e2 refl in
-    then o at (at + 4) (bytesOf 2 18 ++ bytesOf 2 n) (bytesOf 4 (18 * n)) s2 e3 refl
+    let s2 = then o at (at + 2) (bytesOf 2 20) (bytesOf 2 n) e1 e2 refl in
+    then o at (at + 4) (bytesOf 2 20 ++ bytesOf 2 n) (bytesOf 4 (20 * n)) s2 e3 refl
 
 module _ (c : Columns) (i : ℕ) (r : Record) (e : r ≡ rowAt c i) where
   next-rows : rows c (i + 1) ≡ rows c i ++ (r ∷ [])
   next-rows = ap (rows c) (add-one i) ∙ ap (λ (z : Record). rows c i ++ (z ∷ [])) (sym e)
 
   -- one row more is stored
-  pub row-stored : (o : List ℕ) {p q : List ℕ} → p ≡ sets o 0 (recordsBytes duvWidth (rows c i)) → q ≡ sets p (18 * i) (recordBytes duvWidth r) → q ≡ sets o 0 (recordsBytes duvWidth (rows c (i + 1)))
+  pub row-stored : (o : List ℕ) {p q : List ℕ} → p ≡ sets o 0 (recordsBytes duvWidth (rows c i)) → q ≡ sets p (20 * i) (recordBytes duvWidth r) → q ≡ sets o 0 (recordsBytes duvWidth (rows c (i + 1)))
   row-stored o f g =
       let before = recordsBytes duvWidth (rows c i) in
-      then o 0 (18 * i) before (recordBytes duvWidth r) f g (omega (arith, length-records-bytes duvWidth (rows c i), length-rows c i))
+      then o 0 (20 * i) before (recordBytes duvWidth r) f g (omega (arith, length-records-bytes duvWidth (rows c i), length-rows c i))
       ∙ ap (sets o 0) (sym (bytes-append duvWidth (rows c i) r) ∙ ap (recordsBytes duvWidth) (sym next-rows))
 
   pub row-narrow : AllNarrow duvWidth (rows c i) → Narrow duvWidth r → AllNarrow duvWidth (rows c (i + 1))

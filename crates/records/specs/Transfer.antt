@@ -1,11 +1,11 @@
--- What the writer and the reader answer, and what their targets hold afterwards (document 02, No. 4). Definitions only.
+-- What the writer and the reader answer, and what their targets hold afterwards (document 02, No. 4 and No. 8). Definitions only.
 use Prim.Native.Nat.{ℕ}
 use mathlib.Core.Bool.{cond}
 use mathlib.Core.List.{List}
 use lib.Dec.{leb}
 use Rattle.refusal.specs.declared.Refusal.the-variants.{TooManyRecords, NoRoom}
 use Rattle.records.specs.Fields.{duvWidth}
-use Rattle.records.specs.Files.{mostRecords, fileOf, fileLength, recordsIn, formOf}
+use Rattle.records.specs.Files.{mostWritten, fileOf, fileLength, formOf, recordsOf}
 use Rattle.records.specs.Columns.{Columns, over, filled}
 use Rattle.records.specs.declared.fields.Record.{Record}
 use Rattle.records.specs.declared.files.Form.{Form}
@@ -16,7 +16,7 @@ use Rattle.records.specs.declared.transfer.Outcome.the-variants.{Refused
 -- the writer, of n records into a target with this room: refusals 11 and 12, in this order, or how many bytes it writes
 unfoldable pub writeOutcome : (n room : ℕ) → Outcome
 writeOutcome n room =
-    cond (leb n mostRecords)
+    cond (leb n mostWritten)
     (cond (leb (fileLength duvWidth n) room) (Done (fileLength duvWidth n)) (Refused NoRoom))
     (Refused TooManyRecords)
 
@@ -28,7 +28,7 @@ written (Done n) rs old = over (fileOf duvWidth rs) old
 -- the reader, of a file of this form into columns with this room: what refuses the form, then refusal 12, or how many records it reads
 abbrev pub readForm : Form → ℕ → Outcome
 readForm (form.Refused r) room = Refused r
-readForm (form.Records n) room = cond (leb n room) (Done n) (Refused NoRoom)
+readForm (form.Records long n) room = cond (leb n room) (Done n) (Refused NoRoom)
 
 unfoldable pub readOutcome : List ℕ → ℕ → Outcome
 readOutcome l room = readForm (formOf l) room
@@ -36,4 +36,4 @@ readOutcome l room = readForm (formOf l) room
 -- the reader's columns: the records of the file, and beyond them what the columns held; a refusal leaves them as they were
 abbrev pub readInto : Outcome → List ℕ → Columns → Columns
 readInto (Refused r) l c = c
-readInto (Done n) l c = filled (recordsIn duvWidth n l) c
+readInto (Done n) l c = filled (recordsOf l) c

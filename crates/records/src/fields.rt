@@ -5,12 +5,14 @@ use crate::bytes::signed_of;
 use crate::bytes::unsigned_of;
 ghost use mathlib.Core.Path.{_≡_};
 ghost use Prim.Native.Nat.{_+_, _≤_};
-ghost use lib.ListN.{length, drop};
+ghost use lib.ListN.{length, take, drop};
 ghost use lib.Seq.{sets};
-ghost use Rattle.records.specs.Fields.{duvWidth, recordLength, recordBytes, frontRecord};
+ghost use Rattle.records.specs.Bytes.{number, asSigned};
+ghost use Rattle.records.specs.Fields.{duvWidth, recordLength, duvWidthOf, recordBytes, frontRecord};
 ghost use Rattle.records.specs.FieldsLaws.{Narrow};
+ghost use Rattle.records.specs.Conditions.{Known};
 
-// A reading's u and v in micro and its answer; every number is as wide as its field in a file.
+// A reading's u and v in micro and its answer; every number is as wide as its field in a file that is written.
 #[repr(C)]
 pub struct Record {
     pub u: u32,
@@ -20,7 +22,7 @@ pub struct Record {
     pub low: u16,
     pub high: u16,
     // Signed distance from the locus, in micro.
-    pub duv: i16,
+    pub duv: i32,
     pub steps: u8,
     // The class from 0, or 255 for none.
     pub class: u8,
@@ -38,8 +40,11 @@ pub const ZERO_RECORD: Record = Record {
     class: 0,
 };
 
-// The bytes of a record.
-pub(crate) const RECORD_LENGTH: usize = 18;
+// The bytes of a record that is written.
+pub(crate) const RECORD_LENGTH: usize = 20;
+
+// The bytes of a record without its Duv.
+const WITHOUT_DUV: usize = 16;
 
 // A record's bytes, from a place of the buffer on.
 pub(crate) fn put_record(r: Record, out: &mut [u8], at: usize)
@@ -53,24 +58,36 @@ pub(crate) fn put_record(r: Record, out: &mut [u8], at: usize)
     put_number(r.place as u32, 2, out, at + 8);
     put_number(r.low as u32, 2, out, at + 10);
     put_number(r.high as u32, 2, out, at + 12);
-    put_number(duv, 2, out, at + 14);
-    put_number(r.steps as u32, 1, out, at + 16);
-    put_number(r.class as u32, 1, out, at + 17);
+    put_number(duv, 4, out, at + 14);
+    put_number(r.steps as u32, 1, out, at + 18);
+    put_number(r.class as u32, 1, out, at + 19);
 }
 
-// The record in the bytes from a place on.
-pub(crate) fn record_from(bytes: &[u8], at: usize) -> Record
-    requires { ⌜ at + recordLength duvWidth ≤ length (now bytes) ⌝ }
-    ensures { λ r. ⌜ r ≡ frontRecord duvWidth (drop at (now (bytes .entry))) ⌝ }
+// Duv in the bytes from a place on, as many as it has in a file; each number of bytes has a way of its own, which is faster.
+fn duv_at(bytes: &[u8], width: usize, at: usize) -> i32
+    requires { ⌜ Known (recordLength width) × (at + width ≤ length (now bytes)) ⌝ }
+    ensures { λ r. ⌜ r ≡ asSigned width (number (take width (drop at (now (bytes .entry))))) ⌝ }
 {
+    if width == 2 {
+        return signed_of(number_at(bytes, 2, at), 2);
+    }
+    signed_of(number_at(bytes, 4, at), 4)
+}
+
+// The record of this length in the bytes from a place on.
+pub(crate) fn record_from(bytes: &[u8], record_length: usize, at: usize) -> Record
+    requires { ⌜ Known «record_length» × (at + «record_length» ≤ length (now bytes)) ⌝ }
+    ensures { λ r. ⌜ r ≡ frontRecord (duvWidthOf «record_length») (drop at (now (bytes .entry))) ⌝ }
+{
+    let width = record_length - WITHOUT_DUV;
     let u = number_at(bytes, 4, at);
     let v = number_at(bytes, 4, at + 4);
     let place = number_at(bytes, 2, at + 8);
     let low = number_at(bytes, 2, at + 10);
     let high = number_at(bytes, 2, at + 12);
-    let duv = signed_of(number_at(bytes, 2, at + 14));
-    let steps = number_at(bytes, 1, at + 16);
-    let class = number_at(bytes, 1, at + 17);
+    let duv = duv_at(bytes, width, at + 14);
+    let steps = number_at(bytes, 1, at + 14 + width);
+    let class = number_at(bytes, 1, at + 15 + width);
     Record {
         u: u,
         v: v,

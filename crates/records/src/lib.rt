@@ -1,4 +1,4 @@
-// Records of answered readings in a file (document 02, No. 4).
+// Records of answered readings in a file (document 02, No. 4 and No. 8).
 mod bytes;
 mod columns;
 mod fields;
@@ -11,6 +11,7 @@ pub use fields::Record;
 pub use fields::ZERO_RECORD;
 pub use files::Form;
 pub use files::check_form;
+pub use files::file_record;
 pub use files::record_at;
 pub use transfer::Outcome;
 pub use transfer::read_records;

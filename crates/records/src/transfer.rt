@@ -7,7 +7,7 @@ use crate::fields::RECORD_LENGTH;
 use crate::fields::put_record;
 use crate::fields::record_from;
 use crate::files::Form;
-use crate::files::MOST_RECORDS;
+use crate::files::MOST_WRITTEN;
 use crate::files::TRAILER_LENGTH;
 use crate::files::check_form;
 use crate::files::put_trailer;
@@ -16,12 +16,13 @@ ghost use mathlib.Core.Path.{_≡_};
 ghost use Prim.Native.Nat.{_+_, _*_, _≤_};
 ghost use lib.ListN.{length};
 ghost use lib.Seq.{sets};
-ghost use Rattle.records.specs.Fields.{duvWidth, recordLength};
+ghost use Rattle.records.specs.Fields.{duvWidth, recordLength, duvWidthOf};
 ghost use Rattle.records.specs.Files.{recordsBytes, recordsIn};
 ghost use Rattle.records.specs.FilesLaws.{AllNarrow};
 ghost use Rattle.records.specs.Columns.{columns, sizeOf, rows, listOf, filled};
 ghost use Rattle.records.specs.Transfer.{writeOutcome, written, readOutcome, readInto};
-ghost use Rattle.records.specs.RoundTrips.{ReadsBack, WritesAgain};
+ghost use Rattle.records.specs.Conditions.{Known};
+ghost use Rattle.records.specs.RoundTrips.{ReadsBack, FileOfRecords};
 
 // What a writer or a reader did: the refusal, or how many bytes it wrote or records it read.
 pub enum Outcome {
@@ -37,7 +38,7 @@ fn put_rows(
     place: &[u16],
     low: &[u16],
     high: &[u16],
-    duv: &[i16],
+    duv: &[i32],
     steps: &[u8],
     class: &[u8],
     out: &mut [u8],
@@ -61,7 +62,7 @@ pub fn write_records(
     place: &[u16],
     low: &[u16],
     high: &[u16],
-    duv: &[i16],
+    duv: &[i32],
     steps: &[u8],
     class: &[u8],
     file: &mut [u8],
@@ -72,7 +73,7 @@ pub fn write_records(
     ensures back { λ r. ⌜ ReadsBack r (listOf (columns (now (u .entry)) (now (v .entry)) (now (place .entry)) (now (low .entry)) (now (high .entry)) (now (duv .entry)) (now (steps .entry)) (now (class .entry)))) ⌝ }
 {
     let n = list_length(u, v, place, low, high, duv, steps, class);
-    if MOST_RECORDS < n {
+    if MOST_WRITTEN < n {
         return Outcome::Refused(Refusal::TooManyRecords);
     }
     let records_end = RECORD_LENGTH * n;
@@ -85,25 +86,26 @@ pub fn write_records(
     Outcome::Done(end)
 }
 
-// The first n records of the file, into the first n rows.
+// The first n records of the file, which have this length, into the first n rows.
 fn fill_rows(
     file: &[u8],
+    record_length: usize,
     n: usize,
     u: &mut [u32],
     v: &mut [u32],
     place: &mut [u16],
     low: &mut [u16],
     high: &mut [u16],
-    duv: &mut [i16],
+    duv: &mut [i32],
     steps: &mut [u8],
     class: &mut [u8],
 )
-    requires { ⌜ (n ≤ sizeOf (columns (now u) (now v) (now place) (now low) (now high) (now duv) (now steps) (now class))) × (recordLength duvWidth * n ≤ length (now file)) ⌝ }
-    ensures { λ _. ⌜ columns (now (u .exit)) (now (v .exit)) (now (place .exit)) (now (low .exit)) (now (high .exit)) (now (duv .exit)) (now (steps .exit)) (now (class .exit)) ≡ filled (recordsIn duvWidth n (now (file .entry))) (columns (now (u .entry)) (now (v .entry)) (now (place .entry)) (now (low .entry)) (now (high .entry)) (now (duv .entry)) (now (steps .entry)) (now (class .entry))) ⌝ }
+    requires { ⌜ (n ≤ sizeOf (columns (now u) (now v) (now place) (now low) (now high) (now duv) (now steps) (now class))) × Known «record_length» × («record_length» * n ≤ length (now file)) ⌝ }
+    ensures { λ _. ⌜ columns (now (u .exit)) (now (v .exit)) (now (place .exit)) (now (low .exit)) (now (high .exit)) (now (duv .exit)) (now (steps .exit)) (now (class .exit)) ≡ filled (recordsIn (duvWidthOf «record_length») n (now (file .entry))) (columns (now (u .entry)) (now (v .entry)) (now (place .entry)) (now (low .entry)) (now (high .entry)) (now (duv .entry)) (now (steps .entry)) (now (class .entry))) ⌝ }
 {
     let mut i: usize = 0;
     while i < n {
-        let r = record_from(file, RECORD_LENGTH * i);
+        let r = record_from(file, record_length, record_length * i);
         store(r, i, u, v, place, low, high, duv, steps, class);
         i += 1;
     }
@@ -117,18 +119,18 @@ pub fn read_records(
     place: &mut [u16],
     low: &mut [u16],
     high: &mut [u16],
-    duv: &mut [i16],
+    duv: &mut [i32],
     steps: &mut [u8],
     class: &mut [u8],
 ) -> Outcome
     ensures outcome { λ r. ⌜ r ≡ readOutcome (now (file .entry)) (sizeOf (columns (now (u .entry)) (now (v .entry)) (now (place .entry)) (now (low .entry)) (now (high .entry)) (now (duv .entry)) (now (steps .entry)) (now (class .entry)))) ⌝ }
     ensures target { λ r. ⌜ columns (now (u .exit)) (now (v .exit)) (now (place .exit)) (now (low .exit)) (now (high .exit)) (now (duv .exit)) (now (steps .exit)) (now (class .exit)) ≡ readInto r (now (file .entry)) (columns (now (u .entry)) (now (v .entry)) (now (place .entry)) (now (low .entry)) (now (high .entry)) (now (duv .entry)) (now (steps .entry)) (now (class .entry))) ⌝ }
     ensures unchanged { λ _. ⌜ now (file .exit) ≡ now (file .entry) ⌝ }
-    ensures again { λ r. ⌜ WritesAgain r (now (file .entry)) ⌝ }
+    ensures again { λ r. ⌜ FileOfRecords r (now (file .entry)) ⌝ }
 {
     match check_form(file) {
         Form::Refused(refusal) => Outcome::Refused(refusal),
-        Form::Records(n) => {
+        Form::Records(record_length, n) => {
             let room = shortest(
                 u.len(),
                 v.len(),
@@ -142,7 +144,19 @@ pub fn read_records(
             if room < n {
                 return Outcome::Refused(Refusal::NoRoom);
             }
-            fill_rows(file, n, u, v, place, low, high, duv, steps, class);
+            fill_rows(
+                file,
+                record_length,
+                n,
+                u,
+                v,
+                place,
+                low,
+                high,
+                duv,
+                steps,
+                class,
+            );
             Outcome::Done(n)
         }
     }

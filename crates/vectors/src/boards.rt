@@ -169,7 +169,7 @@ fn with_record(sum: u64, record: Record) -> u64
     let place = parts::with_number(v, targets::wide_16(record.place));
     let low = parts::with_number(place, targets::wide_16(record.low));
     let high = parts::with_number(low, targets::wide_16(record.high));
-    let duv = parts::with_number(high, targets::bits_16(record.duv));
+    let duv = parts::with_number(high, targets::bits_32(record.duv));
     let steps = parts::with_number(duv, targets::wide_8(record.steps));
     parts::with_number(steps, targets::wide_8(record.class))
 }
@@ -218,7 +218,7 @@ fn load_held(lists: &Lists) -> Answered {
     let mut place = [0u16; COLUMN_ROOM];
     let mut low = [0u16; COLUMN_ROOM];
     let mut high = [0u16; COLUMN_ROOM];
-    let mut duv = [0i16; COLUMN_ROOM];
+    let mut duv = [0i32; COLUMN_ROOM];
     let mut steps = [0u8; COLUMN_ROOM];
     let mut class = [0u8; COLUMN_ROOM];
     let places = columns::fill_16(lists::numbers(lists, List::Place), &mut place);

@@ -11,13 +11,12 @@ pub(crate) fn low_16(n: u32) -> u16 {
     (n % 65536) as u16
 }
 
-// The signed number that the lowest 16 bits of a number hold.
-pub(crate) fn signed_16(n: u32) -> i16 {
-    let bits = n % 65536;
-    if bits < 32768 {
-        return bits as i16;
+// The signed number that the 32 bits of a number hold.
+pub(crate) fn signed_32(n: u32) -> i32 {
+    if n <= 2147483647 {
+        return n as i32;
     }
-    (bits as i64 - 65536) as i16
+    (-1 - (4294967295 - n) as i64) as i32
 }
 
 // Puts numbers into a column of 8 bits each; answers the part of it that they take.
@@ -44,13 +43,13 @@ pub(crate) fn fill_16<'a>(numbers: &[u32], column: &'a mut [u16]) -> &'a mut [u1
     &mut column[start..end]
 }
 
-// The same for 16 bits each, signed.
-pub(crate) fn fill_signed<'a>(numbers: &[u32], column: &'a mut [i16]) -> &'a mut [i16] {
+// The same for 32 bits each, signed.
+pub(crate) fn fill_signed<'a>(numbers: &[u32], column: &'a mut [i32]) -> &'a mut [i32] {
     let start = 0;
     let end = lesser(numbers.len(), column.len());
     let mut i = 0;
     while i < end {
-        column[i] = signed_16(numbers[i]);
+        column[i] = signed_32(numbers[i]);
         i += 1;
     }
     &mut column[start..end]

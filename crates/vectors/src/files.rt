@@ -15,11 +15,11 @@ use records::Record;
 use refusal::Refusal;
 ghost use Prim.Native.Nat.{_≤_};
 
-// The most bytes of the file that is held: a file of 65,535 records has 1,179,638.
-const HELD_ROOM: usize = 1179648;
+// The most bytes of the file that is held: a file of 65,535 records of 20 bytes has 1,310,708.
+const HELD_ROOM: usize = 1310720;
 
-// The most bytes of the first file of a comparison: a file of 3,640 records has 65,528.
-const FIRST_ROOM: usize = 65536;
+// The most bytes of the first file of a comparison: a file of 3,686 records of 20 bytes has 73,728.
+const FIRST_ROOM: usize = 73728;
 
 pub(crate) const SIZE: usize = HELD_ROOM + FIRST_ROOM;
 
@@ -56,8 +56,8 @@ pub(crate) fn keep_first(file: &mut File, length: u32) -> u32 {
 
 // Adds a byte to a file of so many bytes; what has no room is dropped.
 fn add(file: &mut File, length: u32, byte: u8) -> u32
-    requires { ⌜ length ≤ 1179648 ⌝ }
-    ensures { λ r. ⌜ r ≤ 1179648 ⌝ }
+    requires { ⌜ length ≤ 1310720 ⌝ }
+    ensures { λ r. ⌜ r ≤ 1310720 ⌝ }
 {
     let end = length as usize;
     if end >= HELD_ROOM {
@@ -69,8 +69,8 @@ fn add(file: &mut File, length: u32, byte: u8) -> u32
 
 // Adds a byte several times.
 fn add_run(file: &mut File, length: u32, byte: u8, times: u32) -> u32
-    requires { ⌜ length ≤ 1179648 ⌝ }
-    ensures { λ r. ⌜ r ≤ 1179648 ⌝ }
+    requires { ⌜ length ≤ 1310720 ⌝ }
+    ensures { λ r. ⌜ r ≤ 1310720 ⌝ }
 {
     let mut end = length;
     let mut left = times;
@@ -83,8 +83,8 @@ fn add_run(file: &mut File, length: u32, byte: u8, times: u32) -> u32
 
 // Adds the bytes of a word of hexadecimal digits.
 fn add_pairs(file: &mut File, length: u32, word: &[u8]) -> u32
-    requires { ⌜ length ≤ 1179648 ⌝ }
-    ensures { λ r. ⌜ r ≤ 1179648 ⌝ }
+    requires { ⌜ length ≤ 1310720 ⌝ }
+    ensures { λ r. ⌜ r ≤ 1310720 ⌝ }
 {
     let pairs = word.len() / 2;
     let mut end = length;
@@ -98,8 +98,8 @@ fn add_pairs(file: &mut File, length: u32, word: &[u8]) -> u32
 
 // Adds the bytes of a word: hexadecimal digits, or `HHxK` for K times the byte HH.
 fn add_word(file: &mut File, length: u32, word: &[u8]) -> u32
-    requires { ⌜ length ≤ 1179648 ⌝ }
-    ensures { λ r. ⌜ r ≤ 1179648 ⌝ }
+    requires { ⌜ length ≤ 1310720 ⌝ }
+    ensures { λ r. ⌜ r ≤ 1310720 ⌝ }
 {
     let start = 0;
     let end = fields::find(word, start, b'x');
@@ -156,7 +156,7 @@ fn write_held(lists: &Lists, target: &mut [u8]) -> Outcome {
     let mut place = [0u16; COLUMN_ROOM];
     let mut low = [0u16; COLUMN_ROOM];
     let mut high = [0u16; COLUMN_ROOM];
-    let mut duv = [0i16; COLUMN_ROOM];
+    let mut duv = [0i32; COLUMN_ROOM];
     let mut steps = [0u8; COLUMN_ROOM];
     let mut class = [0u8; COLUMN_ROOM];
     let places = columns::fill_16(lists::numbers(lists, List::Place), &mut place);
@@ -205,7 +205,7 @@ pub(crate) fn form(file: &[u8], out: &mut [u8; 65536], at: usize) -> usize {
             let first = put::number(out, at, Refusal::number(refusal) as u64);
             put::last(out, first, 0)
         }
-        Form::Records(count) => {
+        Form::Records(_, count) => {
             let first = put::number(out, at, 0);
             put::last(out, first, count as u64)
         }
@@ -219,14 +219,14 @@ fn put_record(record: Record, out: &mut [u8; 65536], at: usize) -> usize {
     let place = put::number(out, v, record.place as u64);
     let low = put::number(out, place, record.low as u64);
     let high = put::number(out, low, record.high as u64);
-    let duv = put::signed(out, high, put::widened(record.duv));
+    let duv = put::signed(out, high, record.duv);
     let steps = put::number(out, duv, record.steps as u64);
     put::last(out, steps, record.class as u64)
 }
 
 // The record at an index of the file that is held.
 pub(crate) fn record(file: &[u8], index: u64, out: &mut [u8; 65536], at: usize) -> usize {
-    put_record(records::record_at(file, index as usize), out, at)
+    put_record(records::file_record(file, index as usize), out, at)
 }
 
 // `refusal count` and eight checksums of reading the file into columns of eight rooms.
@@ -237,7 +237,7 @@ pub(crate) fn read(file: &[u8], rooms: [u32; 64], out: &mut [u8; 65536], at: usi
     let mut place = [0u16; READ_ROOM];
     let mut low = [0u16; READ_ROOM];
     let mut high = [0u16; READ_ROOM];
-    let mut duv = [0i16; READ_ROOM];
+    let mut duv = [0i32; READ_ROOM];
     let mut steps = [0u8; READ_ROOM];
     let mut class = [0u8; READ_ROOM];
     let outcome = records::read_records(

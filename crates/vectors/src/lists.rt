@@ -191,12 +191,12 @@ fn add_run(lists: &mut Lists, list: List, run: Run) {
     }
 }
 
-// A decimal number; one below zero by the 16 bits that hold it.
+// A decimal number; one below zero by the 32 bits that hold it.
 fn value_of(text: &[u8]) -> u32 {
     let value = fields::decimal(text);
     if text.len() > 0 {
         if text[0] == b'-' {
-            return (65536 - value % 65536) % 65536;
+            return std::num::wrapping_sub_u32(0, value);
         }
     }
     value

@@ -65,11 +65,6 @@ pub(crate) fn signed(out: &mut [u8; 65536], at: usize, z: i32) -> usize {
     number(out, at, n)
 }
 
-// A signed number of 16 bits as one of 32.
-pub(crate) fn widened(z: i16) -> i32 {
-    z as i32
-}
-
 // The bits of a float, or all ones where it is a NaN, which has no bits that can be read.
 fn bits(x: f64) -> u64 {
     if x == x {

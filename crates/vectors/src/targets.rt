@@ -1,7 +1,6 @@
 // Targets that are written or read into: the pattern that they hold at first, and the checksum of what they hold
 // afterwards.
 use crate::parts;
-use crate::put;
 
 // The most bytes that are written.
 pub(crate) const WRITE_ROOM: usize = 65536;
@@ -30,11 +29,11 @@ pub(crate) fn first(pattern: &Pattern, room: u32) -> &[u32] {
     &all[start..end]
 }
 
-// The 16 bits that hold a signed number.
-pub(crate) fn bits_16(z: i16) -> u32 {
-    let size = arith::magnitude(put::widened(z));
+// The 32 bits that hold a signed number.
+pub(crate) fn bits_32(z: i32) -> u32 {
+    let size = arith::magnitude(z);
     if z < 0 {
-        return std::num::wrapping_sub_u32(65536, size);
+        return std::num::wrapping_sub_u32(0, size);
     }
     size
 }
@@ -83,13 +82,13 @@ pub(crate) fn sum_16(column: &[u16; READ_ROOM], room: u32) -> u64 {
     sum
 }
 
-// The same for a column of 16 bits each, signed.
-pub(crate) fn sum_signed(column: &[i16; READ_ROOM], room: u32) -> u64 {
+// The same for a column of 32 bits each, signed.
+pub(crate) fn sum_signed(column: &[i32; READ_ROOM], room: u32) -> u64 {
     let count = arith::lesser(room as usize, READ_ROOM);
     let mut sum: u64 = 0;
     let mut i = 0;
     while i < count {
-        sum = parts::with_number(sum, bits_16(column[i]));
+        sum = parts::with_number(sum, bits_32(column[i]));
         i += 1;
     }
     sum

@@ -14,8 +14,8 @@ check-form-requires c κs = search needs
 enum-known-refusal : tie.Need-enum-known-refusal
 enum-known-refusal c = search needs
 
-enum-known-m : tie.Need-enum-known-m
-enum-known-m c = search needs
+enum-known-first-length : tie.Need-enum-known-first-length
+enum-known-first-length c = search needs
 
 check-form-requires-2 : tie.Need-check-form-requires-2
 check-form-requires-2 c κs = search needs
@@ -23,16 +23,16 @@ check-form-requires-2 c κs = search needs
 enum-known-refusal-2 : tie.Need-enum-known-refusal-2
 enum-known-refusal-2 c = search needs
 
-enum-known-n : tie.Need-enum-known-n
-enum-known-n c = search needs
+enum-known-second-length : tie.Need-enum-known-second-length
+enum-known-second-length c = search needs
 
 list-all-requires : tie.Need-list-all-requires
 list-all-requires c κs =
-    let m = c .before .before .before .before .before .before .m .given in
-    let n = c .before .before .n .given in
-    let p = form-readable (c .before .before .before .before .before .before .before .before .before .before .before .args .first .now) (m .0 .0) (sym (c .before .before .before .before .before .before .before .before .check-form .ensures .0) ∙ m .1) in
-    let q = form-readable (c .before .before .before .before .before .before .before .before .before .before .before .args .second .now) (n .0 .0) (sym (c .before .before .before .before .check-form2 .ensures .0) ∙ n .1) in
-    record { first = p .0; second = q .0; in-first = p .1; in-second = q .1 }
+    let m = c .before .before .before .before .before .before .first-length .given in
+    let n = c .before .before .second-length .given in
+    let p = form-readable (c .before .before .before .before .before .before .before .before .before .before .before .args .first .now) (m .0 .0) (m .0 .1 .0) (sym (c .before .before .before .before .before .before .before .before .check-form .ensures .0) ∙ m .1) in
+    let q = form-readable (c .before .before .before .before .before .before .before .before .before .before .before .args .second .now) (n .0 .0) (n .0 .1 .0) (sym (c .before .before .before .before .check-form2 .ensures .0) ∙ n .1) in
+    record { files = record { first = p .0; second = q .0; of-first = p .1; of-second = q .1 }; in-first = p .2; in-second = q .2 }
 
 returns : tie.Need-returns
 returns c =
@@ -44,9 +44,9 @@ returns c =
 returns-2 : tie.Need-returns-2
 returns-2 c =
     let a = c .before .before .before .before .before .before .before .before .before .before .args in
-    let m = c .before .before .before .before .before .m .given in
+    let m = c .before .before .before .before .before .first-length .given in
     let r = c .before .refusal2 .given in
-    let good = form-readable (a .first .now) (m .0 .0) (sym (c .before .before .before .before .before .before .before .check-form .ensures .0) ∙ m .1) .0 in
+    let good = form-readable (a .first .now) (m .0 .0) (m .0 .1 .0) (sym (c .before .before .before .before .before .before .before .check-form .ensures .0) ∙ m .1) .0 in
     let bad = form-condition (a .second .now) (r .0 .0) (sym (c .before .before .before .check-form2 .ensures .0) ∙ r .1) in
     (sym (rule-outcome (a .first .now) (a .second .now) (length (a .target .now)) _ (bad-second (r .0 .0) good bad)), (refl, (refl, refl)))
 
@@ -62,10 +62,10 @@ compare-files-spec =
     (tie.spec
     check-form-requires
     enum-known-refusal
-    enum-known-m
+    enum-known-first-length
     check-form-requires-2
     enum-known-refusal-2
-    enum-known-n
+    enum-known-second-length
     list-all-requires
     returns
     returns-2

@@ -25,7 +25,7 @@ returns c =
     let a = c .before .before .before .before .args in
     let k = c .before .before .before .before .pre in
     let short = leb-false _ _ (sym (c .before .has-room .ensures) ∙ not-true _ (c .if1 .taken)) in
-    (sym (rule-outcome (a .first .now) (a .second .now) (length (a .target .now)) _ (no-room (k .first) (k .second) short)), refl)
+    (sym (rule-outcome (a .first .now) (a .second .now) (length (a .target .now)) _ (no-room (k .files .first) (k .files .second) short)), refl)
 
 put-all-requires : tie.Need-put-all-requires
 put-all-requires c κs = (c .before .before .before .before .before .pre, fits (c .before))
@@ -39,7 +39,7 @@ returns-2 c =
     let k = c .before .before .before .before .before .before .before .pre in
     let p = c .before .put-all in
     let n : p .result / 4 ≡ length (fileDifferences (a .first .now) (a .second .now)) = omega (arith, p .ensures .next) in
-    (ap Listed n ∙ sym (rule-outcome (a .first .now) (a .second .now) (length (a .target .now)) _ (listed-all (k .first) (k .second) (fits (c .before .before .before)))), put-over (p .ensures) (fits (c .before .before .before)))
+    (ap Listed n ∙ sym (rule-outcome (a .first .now) (a .second .now) (length (a .target .now)) _ (listed-all (k .files .first) (k .files .second) (fits (c .before .before .before)))), put-over (p .ensures) (fits (c .before .before .before)))
 
 pub list-all-spec : {M : Type 1} → statement M
 list-all-spec =

@@ -5,7 +5,7 @@ use Prim.Native.Nat.{ℕ, _+_, _*_, _≤_}
 use lib.IntN.{ℤ}
 use lib.ListN.{length}
 use lib.Seq.{sets}
-use Rattle.records.specs.Files.{countIn}
+use Rattle.records.specs.Files.{recordLengthIn, countIn}
 use Rattle.records.specs.Conditions.{Readable}
 use Rattle.compare.specs.Differences.{Entry, numbers}
 use Rattle.compare.specs.Comparison.{entryLength}
@@ -15,16 +15,21 @@ pub record Put (old new : List ℤ) (at end : ℕ) (es : List Entry) : Type 0 wh
   pub target : new ≡ sets old at (numbers es)
   pub next : end ≡ at + entryLength * length es
 
--- both files can be read, and have m and n records
-pub record Counted (a b : List ℕ) (m n : ℕ) : Type 0 where
+-- both files can be read, and their records have j and k bytes
+pub record BothRead (a b : List ℕ) (j k : ℕ) : Type 0 where
   pub first : Readable a
   pub second : Readable b
+  pub of-first : recordLengthIn a ≡ j
+  pub of-second : recordLengthIn b ≡ k
+
+-- and there are m and n of them
+pub record Counted (a b : List ℕ) (j k m n : ℕ) : Type 0 where
+  pub files : BothRead a b j k
   pub in-first : countIn a ≡ m
   pub in-second : countIn b ≡ n
 
--- both files can be read, and have n records at least
-pub record BothHave (a b : List ℕ) (n : ℕ) : Type 0 where
-  pub first : Readable a
-  pub second : Readable b
+-- or n of them at least in both
+pub record BothHave (a b : List ℕ) (j k n : ℕ) : Type 0 where
+  pub files : BothRead a b j k
   pub in-first : n ≤ countIn a
   pub in-second : n ≤ countIn b

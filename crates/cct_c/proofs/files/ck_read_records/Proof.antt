@@ -2,7 +2,7 @@
 use mathlib.Core.Path.{refl, ap, subst, _∙_}
 use Rattle.records.specs.Columns.{columns}
 use Rattle.records.specs.Transfer.{readInto}
-use Rattle.records.specs.RoundTrips.{WritesAgain}
+use Rattle.records.specs.RoundTrips.{FileOfRecords}
 use Rattle.records.specs.declared.transfer.Outcome.{Outcome}
 use Rattle.cct_c.specs.Plain.{plainOutcome}
 use borrow.Author.Needs.{needs}
@@ -48,7 +48,7 @@ returns c =
       c .plain-outcome .ensures ∙ ap plainOutcome (done .0),
       (
         done .1 .0 ∙ ap (λ (o : Outcome). readInto o file (columns (start .args .u .now) (start .args .v .now) (start .args .place .now) (start .args .low .now) (start .args .high .now) (start .args .duv .now) (start .args .steps .now) (start .args .class .now))) (done .0),
-        (refl, subst (λ (o : Outcome). WritesAgain o file) (done .0) (done .1 .1 .1)),
+        (refl, subst (λ (o : Outcome). FileOfRecords o file) (done .0) (done .1 .1 .1)),
       ),
     )
 

@@ -1,5 +1,5 @@
 -- `contents_of` meets its contract: each cast keeps its number.
-use mir.Syntax.{w16, w64}
+use mir.Syntax.{w32, w64}
 use mir.Val.{SFits}
 use mir.Facts.{toZ-pos, sfits-widen}
 use borrow.Author.Needs.{needs}
@@ -22,12 +22,12 @@ cast-t6 c = search needs
 cast-t7 : tie.Need-cast-t7
 cast-t7 c = search needs
 
--- Duv fits its 16 bits, and so 64
-duv-fits : (c : tie.After-struct-known5) → SFits w16 (c .before .before .before .before .before .before .args .r .duv)
+-- Duv fits its 32 bits, and so 64
+duv-fits : (c : tie.After-struct-known5) → SFits w32 (c .before .before .before .before .before .before .args .r .duv)
 duv-fits c = search needs
 
 duv-widens : (c : tie.After-struct-known5) → SFits w64 (c .before .before .before .before .before .before .args .r .duv)
-duv-widens c = sfits-widen {w = w16} {w′ = w64} tt (duv-fits c)
+duv-widens c = sfits-widen {w = w32} {w′ = w64} tt (duv-fits c)
 
 cast-t8 : tie.Need-cast-t8
 cast-t8 c = rw (back (duv-fits c)) (duv-widens c)

@@ -1,12 +1,13 @@
 -- `put_record` meets its contract: eight numbers stored one after another.
 use native.Mathlib.Omega.{arith}
 use mathlib.Core.Path.{ap, _∙_}
-use mir.Syntax.{w16}
+use mir.Syntax.{w32}
 use mir.Val.{SFits}
 use Rattle.arith.specs.SignedLaws.{back}
 use lib.IntN.{ℤ, pos, negsuc}
 use Rattle.records.specs.Bytes.{asUnsigned}
 use Rattle.records.specs.BytesLaws.{Holds}
+use Rattle.records.specs.Fields.{duvWidth}
 use Rattle.records.specs.FieldsLaws.{Narrow}
 use Rattle.records.proofs.Stores.{record-stored}
 use borrow.Author.Needs.{needs}
@@ -14,14 +15,14 @@ use Rattle.records.proofs.fields.put_record.Statement.{statement}
 use Rattle.records.proofs.fields.put_record.Tie as tie
 
 -- each number of the record fits its type
-duv-fits : (s : tie.Start) → SFits w16 (s .args .r .duv)
+duv-fits : (s : tie.Start) → SFits w32 (s .args .r .duv)
 duv-fits s = search needs
 
-holds-two : (z : ℤ) → SFits w16 z → Holds 2 z
-holds-two (pos n) f = omega (arith, f .sfits)
-holds-two (negsuc n) f = omega (arith, f .sfits)
+holds-duv : (z : ℤ) → SFits w32 z → Holds duvWidth z
+holds-duv (pos n) f = omega (arith, f .sfits)
+holds-duv (negsuc n) f = omega (arith, f .sfits)
 
-narrow : (s : tie.Start) → Narrow 2 (s .args .r)
+narrow : (s : tie.Start) → Narrow duvWidth (s .args .r)
 narrow s =
     record {
       u = omega arith;
@@ -29,7 +30,7 @@ narrow s =
       place = omega arith;
       low = omega arith;
       high = omega arith;
-      duv = holds-two (s .args .r .duv) (duv-fits s);
+      duv = holds-duv (s .args .r .duv) (duv-fits s);
       steps = omega arith;
       class = omega arith;
     }
@@ -173,7 +174,7 @@ returns c =
     let after-unsigned-of = after-put-number .before .before in
     let start = after-unsigned-of .before .before .before in (
       record-stored (start .args .out .now) (start .args .r) (start .args .at) (after-unsigned-of .unsigned-of .result)
-          (after-unsigned-of .unsigned-of .ensures ∙ ap (asUnsigned 2) (back (duv-fits start)))
+          (after-unsigned-of .unsigned-of .ensures ∙ ap (asUnsigned duvWidth) (back (duv-fits start)))
           (after-put-number .put-number .ensures)
           (after-put-number2 .put-number2 .ensures)
           (after-put-number3 .put-number3 .ensures)

@@ -1,21 +1,58 @@
--- `record_at` meets its contract: the test is whether the bytes reach to the record's end.
-use mathlib.Core.Path.{refl}
-use Rattle.records.proofs.Forms.{at-whole, at-none}
+-- `record_at` meets its contract: the length is known, and the bytes reach to the record's end.
+use mathlib.Core.Path.{_≡_, refl, sym, subst, _∙_}
+use mathlib.Core.Bool.{true}
+use Prim.Native.Nat.{ℕ, _/_, _≤_, _<_}
+use native.Mathlib.Omega.{arith}
+use lib.ListN.{length}
+use borrow.Author.Tests.{not-true, not-false}
+use Rattle.records.specs.Files.{knownLength}
+use Rattle.records.specs.Conditions.{Known}
+use Rattle.records.specs.RefusalLaws.{true-known}
+use Rattle.records.proofs.Forms.{at-unknown, at-whole, at-none, ends-within}
 use borrow.Author.Needs.{needs}
 use Rattle.records.proofs.files.record_at.Statement.{statement}
 use Rattle.records.proofs.files.record_at.Tie as tie
 
-mul-record-from : tie.Need-mul-record-from
-mul-record-from c = search needs
+is-true : (s : tie.Else1) → knownLength (s .before .before .before .args .record-length) ≡ true
+is-true s = sym (s .before .is-known .ensures) ∙ not-false _ (s .if1 .left)
 
-record-from-requires : tie.Need-record-from-requires
-record-from-requires c κs = search needs
+known : (s : tie.Else1) → Known (s .before .before .before .args .record-length)
+known s = true-known (s .before .before .before .args .record-length) (is-true s)
+
+-- the record is whole
+within : (s : tie.Then2) → s .before .before .before .before .before .args .i < length (s .before .before .before .before .before .args .bytes .now) / s .before .before .before .before .before .args .record-length
+within s = subst (λ (n : ℕ). s .before .before .before .before .before .args .i < n) (s .before .whole-records .ensures) (s .if2 .taken)
+
+is-known-requires : tie.Need-is-known-requires
+is-known-requires c κs = search needs
 
 returns : tie.Need-returns
-returns c = (at-whole (c .before .before .before .args .bytes .now) (c .before .before .before .args .i) _ (c .before .if1 .taken) (c .record-from .ensures), refl)
+returns c = (at-unknown (c .before .before .before .args .record-length) (c .before .before .before .args .bytes .now) (c .before .before .before .args .i) (sym (c .before .is-known .ensures) ∙ not-true _ (c .if1 .taken)), refl)
+
+whole-records-requires : tie.Need-whole-records-requires
+whole-records-requires c κs = known (c)
+
+mul-record-from : tie.Need-mul-record-from
+mul-record-from c = omega (arith, ends-within (c .before .before .before .before .before .args .record-length) (c .before .before .before .before .before .args .i) _ (known (c .before .before)) (within (c)), c .before .before .before .before .before .good)
+
+record-from-requires : tie.Need-record-from-requires
+record-from-requires c κs = (known (c .before .before), ends-within (c .before .before .before .before .before .args .record-length) (c .before .before .before .before .before .args .i) _ (known (c .before .before)) (within (c)))
 
 returns-2 : tie.Need-returns-2
-returns-2 c = (at-none (c .before .before .args .bytes .now) (c .before .before .args .i) (c .if1 .left), refl)
+returns-2 c = (at-whole (c .before .before .before .before .before .before .args .record-length) (c .before .before .before .before .before .before .args .bytes .now) (c .before .before .before .before .before .before .args .i) _ (is-true (c .before .before .before)) (within (c .before)) (c .record-from .ensures), refl)
+
+returns-3 : tie.Need-returns-3
+returns-3 c =
+    (at-none (c .before .before .before .before .before .args .record-length) (c .before .before .before .before .before .args .bytes .now) (c .before .before .before .before .before .args .i) (is-true (c .before .before)) (subst (λ (n : ℕ). n ≤ c .before .before .before .before .before .args .i) (c .before .whole-records .ensures) (c .if2 .left)), refl)
 
 pub record-at-spec : {M : Type 1} → statement M
-record-at-spec = tie.close (tie.spec mul-record-from record-from-requires returns returns-2)
+record-at-spec =
+    tie.close
+    (tie.spec
+    is-known-requires
+    returns
+    whole-records-requires
+    mul-record-from
+    record-from-requires
+    returns-2
+    returns-3)

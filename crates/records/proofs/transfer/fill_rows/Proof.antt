@@ -2,20 +2,20 @@
 use Prim.Native.Nat.{ℕ, _-_, _≤_}
 use mathlib.Core.Path.{_≡_, ap, _∙_}
 use native.Mathlib.Omega.{arith}
-use Rattle.records.specs.Fields.{duvWidth}
+use Rattle.records.specs.Fields.{duvWidthOf}
 use Rattle.records.specs.Files.{recordsIn}
 use Rattle.records.specs.Columns.{Columns, columns, filled}
 use Rattle.records.specs.ColumnsLaws.{Level, has-row, level-row}
-use Rattle.records.proofs.Rows.{none-read, level-read, next-read}
+use Rattle.records.proofs.Rows.{none-read, level-read, next-read, row-within}
 use Rattle.records.proofs.transfer.fill_rows.Statement.{statement}
 use Rattle.records.proofs.transfer.fill_rows.Tie as tie
 
 abbrev Inv-loop : tie.InvT-loop
-Inv-loop file n u₀ v₀ place₀ low₀ high₀ duv₀ steps₀ class₀ i₀ u v place low high duv steps class i =
-    (i ≤ n) × (columns u v place low high duv steps class ≡ filled (recordsIn duvWidth i file) (columns u₀ v₀ place₀ low₀ high₀ duv₀ steps₀ class₀))
+Inv-loop file long n u₀ v₀ place₀ low₀ high₀ duv₀ steps₀ class₀ i₀ u v place low high duv steps class i =
+    (i ≤ n) × (columns u v place low high duv steps class ≡ filled (recordsIn (duvWidthOf long) i file) (columns u₀ v₀ place₀ low₀ high₀ duv₀ steps₀ class₀))
 
 abbrev μ-loop : tie.MeasureT-loop
-μ-loop file n u₀ v₀ place₀ low₀ high₀ duv₀ steps₀ class₀ i₀ u v place low high duv steps class i = n - i
+μ-loop file long n u₀ v₀ place₀ low₀ high₀ duv₀ steps₀ class₀ i₀ u v place low high duv steps class i = n - i
 
 -- the columns as they were given, and as the loop has them
 abbrev given : tie.Start Inv-loop μ-loop → Columns
@@ -25,16 +25,16 @@ abbrev held : tie.At-loop Inv-loop μ-loop → Columns
 held s = columns (s .loop .u) (s .loop .v) (s .loop .place) (s .loop .low) (s .loop .high) (s .loop .duv) (s .loop .steps) (s .loop .class)
 
 level : (s : tie.At-loop Inv-loop μ-loop) → Level (held s) (given (s .before .before .before .before .before .before .before .before .before))
-level s = level-read (s .before .before .before .before .before .before .before .before .before .args .file .now) (given (s .before .before .before .before .before .before .before .before .before)) (s .loop .i) (held s) (s .loop .inv .1) (omega (arith, s .loop .inv .0, s .before .before .before .before .before .before .before .before .before .pre .0))
+level s = level-read (s .before .before .before .before .before .before .before .before .before .args .record-length) (s .before .before .before .before .before .before .before .before .before .args .file .now) (given (s .before .before .before .before .before .before .before .before .before)) (s .loop .i) (held s) (s .loop .inv .1) (omega (arith, s .loop .inv .0, s .before .before .before .before .before .before .before .before .before .pre .0))
 
 loop-holds : tie.Need-loop-holds Inv-loop μ-loop
-loop-holds c = (omega arith, none-read (c .before .before .before .before .before .before .before .before .args .file .now) (given (c .before .before .before .before .before .before .before .before)))
+loop-holds c = (omega arith, none-read (c .before .before .before .before .before .before .before .before .args .record-length) (c .before .before .before .before .before .before .before .before .args .file .now) (given (c .before .before .before .before .before .before .before .before)))
 
 mul-record-from : tie.Need-mul-record-from Inv-loop μ-loop
-mul-record-from c = omega (arith, c .loop-test .taken, c .before .before .before .before .before .before .before .before .before .before .pre .1, c .before .before .before .before .before .before .before .before .before .before .good)
+mul-record-from c = omega (arith, row-within (c .before .before .before .before .before .before .before .before .before .before .args .record-length) (c .before .loop .i) (c .before .before .before .before .before .before .before .before .before .before .args .n) _ (c .loop-test .taken) (c .before .before .before .before .before .before .before .before .before .before .pre .2), c .before .before .before .before .before .before .before .before .before .before .good)
 
 record-from-requires : tie.Need-record-from-requires Inv-loop μ-loop
-record-from-requires c κs = omega (arith, c .loop-test .taken, c .before .before .before .before .before .before .before .before .before .before .pre .1)
+record-from-requires c κs = (c .before .before .before .before .before .before .before .before .before .before .pre .1, row-within (c .before .before .before .before .before .before .before .before .before .before .args .record-length) (c .before .loop .i) (c .before .before .before .before .before .before .before .before .before .before .args .n) _ (c .loop-test .taken) (c .before .before .before .before .before .before .before .before .before .before .pre .2))
 
 store-requires : tie.Need-store-requires Inv-loop μ-loop
 store-requires c κs =
@@ -59,7 +59,7 @@ loop-again c =
     let in-loop = after-record-from .before in
     let at-loop = in-loop .before in
     let start = at-loop .before .before .before .before .before .before .before .before .before in
-    (omega (arith, in-loop .loop-test .taken), next-read (start .args .file .now) (given start) (at-loop .loop .i) (held at-loop) _ (after-record-from .record-from .result) (omega (arith, in-loop .loop-test .taken, start .pre .0)) (at-loop .loop .inv .1) (after-record-from .record-from .ensures) (after-store .store .ensures))
+    (omega (arith, in-loop .loop-test .taken), next-read (start .args .record-length) (start .args .file .now) (given start) (start .pre .1) (at-loop .loop .i) (held at-loop) _ (after-record-from .record-from .result) (omega (arith, in-loop .loop-test .taken, start .pre .0)) (at-loop .loop .inv .1) (after-record-from .record-from .ensures) (after-store .store .ensures))
 
 same-length : tie.Need-same-length Inv-loop μ-loop
 same-length c = level (c .before) .u
@@ -90,7 +90,7 @@ returns c =
     let at-loop = c .before in
     let start = at-loop .before .before .before .before .before .before .before .before .before in
     let e : at-loop .loop .i ≡ start .args .n = omega (arith, at-loop .loop .inv .0, c .loop-test .left) in
-    at-loop .loop .inv .1 ∙ ap (λ (k : ℕ). filled (recordsIn duvWidth k (start .args .file .now)) (given start)) e
+    at-loop .loop .inv .1 ∙ ap (λ (k : ℕ). filled (recordsIn (duvWidthOf (start .args .record-length)) k (start .args .file .now)) (given start)) e
 
 pub fill-rows-spec : {M : Type 1} → statement M
 fill-rows-spec =

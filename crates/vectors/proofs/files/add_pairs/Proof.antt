@@ -5,7 +5,7 @@ use Rattle.vectors.proofs.files.add_pairs.Statement.{statement}
 use Rattle.vectors.proofs.files.add_pairs.Tie as tie
 
 abbrev Inv-loop : tie.InvT-loop
-Inv-loop file₀ length word pairs end₀ i₀ file end i = (i ≤ pairs) × (end ≤ 1179648)
+Inv-loop file₀ length word pairs end₀ i₀ file end i = (i ≤ pairs) × (end ≤ 1310720)
 
 abbrev μ-loop : tie.MeasureT-loop
 μ-loop file₀ length word pairs end₀ i₀ file end i = pairs - i

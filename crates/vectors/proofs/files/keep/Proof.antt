@@ -5,7 +5,7 @@ use Rattle.vectors.proofs.files.keep.Statement.{statement}
 use Rattle.vectors.proofs.files.keep.Tie as tie
 
 abbrev Inv-loop : tie.InvT-loop
-Inv-loop file₀ target count written length₀ i₀ file length i = (i ≤ written) × (length ≤ 1179648)
+Inv-loop file₀ target count written length₀ i₀ file length i = (i ≤ written) × (length ≤ 1310720)
 
 abbrev μ-loop : tie.MeasureT-loop
 μ-loop file₀ target count written length₀ i₀ file length i = written - i

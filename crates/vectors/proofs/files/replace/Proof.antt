@@ -6,7 +6,7 @@ use Rattle.vectors.proofs.files.replace.Statement.{statement}
 use Rattle.vectors.proofs.files.replace.Tie as tie
 
 abbrev Inv-loop : tie.InvT-loop
-Inv-loop file₀ text held₀ i₀ file held i = (i ≤ length text) × (held ≤ 1179648)
+Inv-loop file₀ text held₀ i₀ file held i = (i ≤ length text) × (held ≤ 1310720)
 
 abbrev μ-loop : tie.MeasureT-loop
 μ-loop file₀ text held₀ i₀ file held i = length text - i

@@ -1,21 +1,13 @@
--- A record's numbers through the casts that the code makes, where they fit.
+-- What is kept, by the tests that the code makes.
 use mathlib.Core.Path.{_≡_, refl, ap, _∙_}
 use mathlib.Core.Bool.{true, false}
-use Prim.Native.Nat.{ℕ, _≤_}
-use native.Mathlib.Omega.{arith}
-use lib.IntN.{ℤ, pos, negsuc, natAbs}
+use Prim.Native.Nat.{ℕ}
 use borrow.Author.Tests.{eq-eqb, ne-eqb}
-use mir.Syntax.{w16}
-use mir.Val.{SFits}
 use Rattle.records.specs.declared.fields.Record.{Record}
 use Rattle.cct.specs.declared.Answer.{Answer}
 use Rattle.kept.specs.Keeping.{recordOf, fitsRecord, keep}
 use Rattle.kept.specs.declared.Kept.{Kept}
 use Rattle.kept.specs.declared.Kept.the-variants as is
-
-pub narrow-duv : (z : ℤ) → natAbs z ≤ 32767 → SFits w16 z
-narrow-duv (pos n) h = record { sfits = omega arith }
-narrow-duv (negsuc n) h = record { sfits = omega arith }
 
 module _ (u v : ℕ) (a : Answer) where
   pub not-accepted : (a .refusal ≡ 0 → ⊥) → is.NotKept ≡ keep u v a
