@@ -35,7 +35,7 @@ const THREE_PIECES: i64 = 3 * PIECE_LENGTH as i64;
 const FAR_OUT: u32 = 4000000;
 
 // A reading is too far from the locus where its squared distance to the nearest entry exceeds this (refusal 5).
-const LIMIT: u64 = 900000000;
+const LIMIT: u64 = 2500000000;
 
 // A point of the CIE 1960 diagram. One unit of u and v is document 01's "micro", 0.000001.
 pub struct Chromaticity {

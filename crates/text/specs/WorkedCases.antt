@@ -1,6 +1,6 @@
 -- The cases of document 01 that are marked (P), in one table: its four conversions, and the first eight lines of its listing as bytes
--- in and bytes out. Its third and fourth line look between entries, so their Duv are those of document 02, No. 3. One theorem says that the
--- definitions give what is expected, by computation.
+-- in and bytes out. Its third and fourth line look between entries, so their Duv are those of document 02, No. 3; its sixth is accepted since
+-- No. 8, to which the two lines after it belong. One theorem says that the definitions give what is expected, by computation.
 use mathlib.Core.Path.{_≡_, refl}
 use mathlib.Core.Bool.{false}
 use mathlib.Core.List.{List, [], _∷_, _++_, map}
@@ -72,7 +72,9 @@ cases =
     ∷ (line "219300 327100 2" gives prints "0 23112 21892 23866 -2331 2 2")
     ∷ (line "341150 360520 0" gives prints "0 62626 59432 64600 -2061 0 0")
     ∷ (line "345070 330530 0" gives prints "0 64600 62016 64600 -30000 0 0")
-    ∷ (line "345070 330529 0" gives prints "5")
+    ∷ (line "345070 330529 0" gives prints "0 64600 62016 64600 -30001 0 0")
+    ∷ (line "345070 310530 0" gives prints "0 64600 62016 64600 -50000 0 0")
+    ∷ (line "345070 310529 0" gives prints "5")
     ∷ (line "183000 276000" gives prints "6")
     ∷ (line "346000 360540" gives prints "7")
     ∷ []
