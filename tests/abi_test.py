@@ -136,8 +136,8 @@ def check_missing_library():
 
 
 LAMP_EXAMPLES = ("examples/lamp.c", "examples/lamp.py")
-# x and y of lamps with a class, without one, and with each refusal that x and y can meet.
-LAMPS = ("0.3127 0.3290", "0.4476 0.4074", "0.3451 0.3515", "nan 0.3", "0.3 1", "0.23 0.2825", "0.23 0.23", "0.5065 0.3231",
+# x and y of lamps with a class, without one, strongly tinted, and with each refusal that x and y can meet.
+LAMPS = ("0.3127 0.3290", "0.4476 0.4074", "0.3451 0.3515", "0.33 0.42", "nan 0.3", "0.3 1", "0.3 0.45", "0.23 0.23", "0.5065 0.3231",
          "-0.0000005 0.3", "-0.0000006 0.3")
 NO_LAMPS = ("", "0.3127", "0,3127 0,3290", "x y", "0.3127 0.3290 5000")
 BLACKBODIES = ("1500", "1650.5", "2856", "19000", "1e5")

@@ -10,8 +10,8 @@ from core_cases import edge_lists, edges_about, edges_around, rising_edges, spoi
 from dice import Dice
 from floats import NEGATIVE_INFINITY, QUIET_NAN, nearest_f32
 from hard_floats import DARK, LIMIT_4096, MINUS_ONE, ONE
-from readings import (AS_FLOATS, about_piece, admitted, as_xyz, at_the_limit, behind_an_end, best_outside, comparisons, entry_ties,
-                      level_ties, looks, near_locus, search_ties)
+from readings import (AS_FLOATS, about_piece, admitted, as_xyz, at_the_earlier_limit, at_the_limit, behind_an_end, beside_the_limit,
+                      best_outside, comes_to, comparisons, entry_ties, level_ties, looks, near_locus, search_ties)
 
 LARGEST_U32 = 2**32 - 1
 ALLOWANCES = tuple(range(16)) + (100, 2**31, LARGEST_U32)
@@ -40,7 +40,7 @@ def any_edges(dice):
 
 def document_lines(dice):
     """The document's listing, (P) and "Also run" cases, at the allowances it names."""
-    for text, _ in document_cases.LISTING[:9]:
+    for text, _ in document_cases.LISTING[:-1]:
         u, v, *steps = map(int, text.split())
         for allowance in steps + [13, 14, 15, LARGEST_U32]:
             yield line("whole", (u, v), allowance, TEXT_EDGES)
@@ -55,7 +55,7 @@ def document_lines(dice):
 def near_lines(dice):
     """Readings about the locus through every kind, at every allowance."""
     for _ in range(1700):
-        reading = near_locus(dice, dice.pick((0, 2, 30, 1000, 8000, 24_000)))
+        reading = near_locus(dice, dice.pick((0, 2, 30, 1000, 8000, 40_000)))
         for kind in ("whole", *AS_FLOATS):
             yield through(kind, reading, dice.pick(ALLOWANCES), any_edges(dice))
 
@@ -73,10 +73,13 @@ def far_lines(dice):
 
 
 def limit_lines(dice):
-    """The last squared distance that is taken and the first that is refused, at small and large allowances."""
-    for reading in at_the_limit():
-        for kind in ("whole", "uv", "uvp"):
+    """The last squared distance that is taken and the first that is refused, through every kind that comes to the reading exactly, at
+    small and large allowances; then the limit before No. 8."""
+    for reading in at_the_limit() + beside_the_limit(dice, 60):
+        for kind in filter(lambda kind: comes_to(kind, reading), ("whole", *AS_FLOATS)):
             yield through(kind, reading, dice.pick(ALLOWANCES), any_edges(dice))
+    for reading in at_the_earlier_limit():
+        yield through(dice.pick(("whole", *AS_FLOATS)), reading, dice.pick(ALLOWANCES), any_edges(dice))
 
 
 def end_lines(dice):
@@ -149,7 +152,7 @@ def edge_list_lines(dice):
 
 
 BEHIND_FIRST, BEHIND_LAST = (183_000, 276_000), (346_000, 360_540)
-FAR_BEHIND_FIRST, FAR_BEHIND_LAST = (150_000, 240_000), (400_000, 361_000)
+FAR_BEHIND_FIRST, FAR_BEHIND_LAST = (140_000, 230_000), (420_000, 361_000)
 FAR_ASIDE = (250_000, 500_000)
 
 
@@ -187,7 +190,7 @@ def refinement_readings(dice):
     """Readings of every kind for demand 3, hard ones among them, refused ones too."""
     hard = search_ties(dice, comparisons, 12) + search_ties(dice, looks, 10) + best_outside(dice, 10) + entry_ties(dice, 6)
     hard += [about_piece(dice, i) for i in (1, 2, 22, 23) for _ in range(2)] + level_ties(dice, 5)
-    hard += [admitted(dice) for _ in range(40)] + [(183_000, 276_000), (345_070, 330_530), (345_070, 330_529)]
+    hard += [admitted(dice) for _ in range(40)] + [(183_000, 276_000), (345_070, 330_529), (345_070, 310_530), (345_070, 310_529)]
     for k, reading in enumerate(hard):
         yield ("whole", "uv", "uvp", "xy", "xyz")[k % 5], reading
 

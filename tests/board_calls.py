@@ -10,10 +10,11 @@ from record_calls import Difference, expect
 
 SLOTS = 64
 U8, U16, U32, SIZE = ctypes.c_uint8, ctypes.c_uint16, ctypes.c_uint32, ctypes.c_size_t
-COLUMNS = U32, U32, U16, U16, U16, ctypes.c_int16, U8, U8
+COLUMNS = U32, U32, U16, U16, U16, ctypes.c_int32, U8, U8
 FIELDS = "u", "v", "place", "low", "high", "duv", "steps", "class", "job", "stamp"
-NUMBERS = struct.Struct("=IIHHHhBBxxIHxx")  # a lot's ten numbers, without the bytes between them
-WITH_GAPS = struct.Struct("=IIHHHhBBHIHH")  # and with them: two after the class, two after the stamp
+NUMBERS = struct.Struct("=IIHHHxxiBBxxIHxx")  # a lot's ten numbers, without the bytes between them
+WITH_GAPS = struct.Struct("=IIHHHHiBBHIHH")  # and with them: two before Duv, two after the class, two after the stamp
+GAPS = 3
 
 
 class CRecord(ctypes.Structure):
@@ -46,7 +47,7 @@ class CAnswer(ctypes.Structure):
     _fields_ = [("board", CBoard), ("told", CTold)]
 
 
-assert list(map(ctypes.sizeof, (CLot, CBoard, CTold, CAnswer))) == [28, 1800, 32, 1832]
+assert list(map(ctypes.sizeof, (CRecord, CLot, CBoard, CTold, CAnswer))) == [24, 32, 2056, 36, 2096]
 assert NUMBERS.size == WITH_GAPS.size == ctypes.sizeof(CLot)
 
 TAKEN = {
@@ -81,7 +82,8 @@ def shown(answer):
 
 def board_of(count, slots, gaps):
     """A board with any count and slots, and with any numbers in the bytes between its fields."""
-    lots = b"".join(WITH_GAPS.pack(*slot[:8], *gap[:1], *slot[8:], *gap[1:]) for slot, gap in zip(slots, gaps))
+    parts = ((*slot[:5], first, *slot[5:8], second, *slot[8:], third) for slot, (first, second, third) in zip(slots, gaps))
+    lots = b"".join(WITH_GAPS.pack(*numbers) for numbers in parts)
     return CBoard.from_buffer_copy(count.to_bytes(8, "little") + lots)
 
 

@@ -11,8 +11,8 @@ import board_table
 from board_lines import LARGEST_STAMP, board_line
 from board_table import LAST_STAMP, STALE_STAMP, Lot, Told
 from dice import Dice
-from record_cases import DUVS, EXTREMES, ONES, UNLIKE, WRAPPED, ZEROS, columns_of, flat, random_records, streaks, with_field
-from record_lines import BITS, LETTERS, LONGEST_LINE, MOST_NUMBERS, SIGNED, Held, changes, column_line
+from record_cases import OTHERS, WRAPPED, columns_of, extremes, flat, random_records, streaks, with_field
+from record_lines import LETTERS, LONGEST_LINE, MOST_NUMBERS, SIGNED, Held, changes, column_line
 
 KINDS = ("board",)
 MOST_LOTS = 64
@@ -135,17 +135,20 @@ def uneven_cases(dice):
             yield walked(columns, min(others, length), dice)
 
 
+DUVS = (-2**31, -2**31 + 1, -50_000, -32_769, 32_768, 65_536, 2**31 - 2, 2**31 - 1)  # none of them fits 16 bits
+
+
 def extreme_records(others):
     """A record for each of eight extremes of each field, beside others."""
     for at, letter in enumerate(LETTERS):
-        numbers = DUVS if letter in SIGNED else EXTREMES[BITS[letter]]
+        numbers = DUVS if letter in SIGNED else extremes(letter)
         for number in numbers[:4] + numbers[-4:]:
             yield with_field(others, at, number)
 
 
 def field_cases(dice):
     """64 lots with each field at its extremes, beside zeros, beside ones in every bit, and beside bytes that all differ."""
-    for others in (ZEROS, ONES, UNLIKE):
+    for others in OTHERS:
         yield walked(columns_of(list(extreme_records(others))), MOST_LOTS, dice)
 
 

@@ -22,7 +22,7 @@ sys.path.insert(0, str(ROOT / "python"))
 from cradlekeel import REASONS
 
 RECORDS = [(219300, 327100, 23156, 23152, 23158, -2325, 14, 2), (255910, 349510, 36176, 33592, 38760, 0, 0, 1),
-           (4_294_967_295, 0, 65_535, 0, 1, -32_768, 255, 255)]
+           (4_294_967_295, 0, 65_535, 0, 1, -2_147_483_648, 255, 255)]
 LAST_STAMP, STALE_STAMP = 65_535, 18
 PLACE = "PLACE is {}, which is not a whole number; places are counted from 0, as in {}"
 
@@ -31,9 +31,9 @@ def board(*words, text=b"", **options):
     return run(["board", *words], text, **options)
 
 
-def file_in(folder, records=RECORDS, name="day.rec"):
+def file_in(folder, records=RECORDS, name="day.rec", length=record_files.WRITTEN):
     path = folder / name
-    path.write_bytes(record_files.file_of(records))
+    path.write_bytes(record_files.file_by(length, records))
     return path
 
 
@@ -84,7 +84,7 @@ PRINTED = b"""\
 0
 0 0 1 4711 219300 327100 23156 23152 23158 -2325 14 2
 0 1 1 4712 255910 349510 36176 33592 38760 0 0 1
-0 2 0 0 4294967295 0 65535 0 1 -32768 255 -
+0 2 0 0 4294967295 0 65535 0 1 -2147483648 255 -
 0 lots 3
 """
 
@@ -101,6 +101,8 @@ def check_commands(folder):
     check("the file is only read", path.read_bytes() == record_files.file_of(RECORDS), path)
     expect("a second run begins with the file", board(path, text=b"read 0"), Lots(RECORDS).answers(["read 0"]))
     expect("no commands", board(path))
+    earlier = RECORDS[:2] * 32
+    expect("a file from before", board(file_in(folder, earlier, "earlier.rec", record_files.EARLIER), text=b"list"), Lots(earlier).answers(["list"]))
     expect("a path alone, from its folder", board("day.rec", text=b"list\n", cwd=folder), Lots(RECORDS).answers(["list"]))
     expect("a name that begins with a dash", shell('cp day.rec ./-h; "$0" board -- -h', b"read 1", cwd=folder), Lots(RECORDS).answers(["read 1"]))
 
@@ -237,18 +239,20 @@ def check_help_line(folder):
 def check_files(folder):
     """A file that is not loaded is named with the reason, and no command is read."""
     file_in(folder, (30 * RECORDS)[:65], "65.rec")
-    file_in(folder, 3600 * RECORDS[:1], "3600.rec")
-    file_in(folder, 3601 * RECORDS[:1], "3601.rec")
+    file_in(folder, 3200 * RECORDS[:1], "3200.rec")
+    file_in(folder, 3201 * RECORDS[:1], "3201.rec")
+    file_in(folder, 3600 * RECORDS[:1], "3600.rec", record_files.EARLIER)
+    file_in(folder, 3601 * RECORDS[:1], "3601.rec", record_files.EARLIER)
     (folder / "cut.rec").write_bytes(record_files.file_of(RECORDS)[:-1])
     (folder / "empty.rec").write_bytes(b"")
-    (folder / "long.rec").write_bytes(bytes(1_179_639))
+    (folder / "long.rec").write_bytes(bytes(1_310_709))
     commands = folder / "commands"
     commands.write_bytes(text_of(BOTH))
-    refused = {"65.rec": 16, "3600.rec": 16, "3601.rec": 11, "cut.rec": 14, "empty.rec": 13}
+    refused = {"65.rec": 16, "3200.rec": 16, "3600.rec": 16, "3201.rec": 11, "3601.rec": 11, "cut.rec": 14, "empty.rec": 13}
     said = {name: f"refusal {number}: {REASONS[number]}" for name, number in refused.items()}
-    for name in ("65.rec", "3600.rec"):
+    for name in ("65.rec", "3200.rec", "3600.rec"):
         said[name] += f": it has {name.removesuffix('.rec')}; docs/BOARD.md tells how to make several files of it"
-    said |= {"missing.rec": "No such file or directory", ".": "Is a directory", "long.rec": "over 1,179,638 bytes, longer than any record file"}
+    said |= {"missing.rec": "No such file or directory", ".": "Is a directory", "long.rec": "over 1,310,708 bytes, longer than any record file"}
     for name, why in said.items():
         with commands.open("rb") as given:
             ran = subprocess.run([COMMAND, "board", name], stdin=given, capture_output=True, timeout=PATIENCE, cwd=folder)

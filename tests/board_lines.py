@@ -42,11 +42,11 @@ def called(board, letter, *numbers):
 
 
 def numbers_of(lot):
-    """The ten numbers of a lot; Duv, the sixth of its record, by its 16 bits."""
+    """The ten numbers of a lot; Duv, the sixth of its record, by its 32 bits."""
     if lot is None:
         return NO_LOT
     *numbers, duv, steps, cls = lot.record
-    return *numbers, duv % 2**16, steps, cls, lot.job, lot.stamp
+    return *numbers, duv % 2**32, steps, cls, lot.job, lot.stamp
 
 
 def shift(count):

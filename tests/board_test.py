@@ -69,8 +69,8 @@ def check_records():
     assert str(fault_of(TypeError, lambda: Board.load([GOOD, tuple(GOOD)]))).startswith("records[1] is (219300, ")
     fault_of(TypeError, lambda: Board.load(None))
     fault_of(TypeError, lambda: Board.load([None]))
-    fault = fault_of(ValueError, lambda: Board.load(iter([GOOD, GOOD._replace(duv=40_000)])))
-    assert str(fault) == "records[1].duv is 40000, which does not fit a signed whole number of 16 bits", fault
+    fault = fault_of(ValueError, lambda: Board.load(iter([GOOD, GOOD._replace(duv=2**31)])))
+    assert str(fault) == "records[1].duv is 2147483648, which does not fit a signed whole number of 32 bits", fault
 
 
 def check_reasons():
@@ -190,6 +190,9 @@ def check_loads():
     file = cradlekeel.to_bytes(records)
     for given in (tuple(records), iter(records), (record for record in records), dict.fromkeys(records), cradlekeel.read_records(file)):
         assert Board.load(given) == (board, NOTHING)
+    earlier = [record._replace(duv=place - 32_768) for place, record in enumerate(records)]
+    file = record_files.file_by(record_files.EARLIER, earlier)
+    assert [lot.record for lot in Board.load(cradlekeel.read_records(file))[0].lots] == earlier
     assert Board.load([]) == (Board(), NOTHING) and Board.load(()) == Board.load(iter([]))
     for count in (65, 66, 3600, 4000):
         assert Board.load(count * records[:1]) == (Board(), Told(TOO_MANY_LOTS, 0, None)), count
@@ -224,7 +227,7 @@ def check_values():
     first, second = board.assign(0, 0, 5)[0].assign(1, 0, 6)[0], board.assign(1, 0, 6)[0].assign(0, 0, 5)[0]
     assert first == second and hash(first) == hash(second) and len({board, first, second}) == 2
     assert first != board and board.assign(0, 0, 0)[0] != board and first != first.lots and Board.load([GOOD])[0] != board
-    padded = StoredBoard.from_buffer_copy(b"\xff" * 1800)
+    padded = StoredBoard.from_buffer_copy(b"\xff" * 2056)
     padded.count = 2
     for lot, stored in zip(padded.lots, first._stored.lots):
         for field in ("u", "v", "place", "low", "high", "duv", "steps", "class_index"):
@@ -268,15 +271,18 @@ def check_example():
         path = Path(folder) / "morning.rec"
         for count in (1, 2, 64):
             records = count * [tuple(GOOD)]
-            path.write_bytes(record_files.file_of(records))
-            ran = run_example(path)
-            assert (ran.stdout.splitlines(), ran.stderr, ran.returncode) == (list(example_lines(records)), "", 0), ran
+            for length in record_files.RECORDS:
+                path.write_bytes(record_files.file_by(length, records))
+                ran = run_example(path)
+                assert (ran.stdout.splitlines(), ran.stderr, ran.returncode) == (list(example_lines(records)), "", 0), ran
         with open("/dev/full", "wb") as full:
             ran = subprocess.run([EXAMPLE, path], stdout=full, stderr=subprocess.PIPE, text=True)
         assert (ran.returncode, ran.stderr) == (1, "board: standard output could not be written\n"), ran
-        none, over, most = (record_files.file_of(count * [tuple(GOOD)]) for count in (0, 65, 3600))
+        none, over, most, beyond = (record_files.file_of(count * [tuple(GOOD)]) for count in (0, 65, 3200, 3201))
+        earlier = record_files.file_by(record_files.EARLIER, 3600 * [tuple(GOOD)])
         too_many = "refusal 16: more than 64 records"
-        for file, said in ((none, "has no records"), (over, too_many), (most, too_many), (most + b"\0", "refusal 14: "), (b"", "refusal 13: ")):
+        for file, said in ((none, "has no records"), (over, too_many), (most, too_many), (earlier, too_many), (beyond, "refusal 11: "),
+                           (most + b"\0", "refusal 14: "), (earlier + b"\0", "refusal 14: "), (b"", "refusal 13: ")):
             path.write_bytes(file)
             ran = run_example(path)
             assert (ran.returncode, ran.stdout) == (1, "") and ran.stderr.startswith(f"board: {path}") and said in ran.stderr, ran

@@ -37,11 +37,11 @@ INSTEAD, BESIDE = "instead", "beside"
 COLUMNS_GIVEN = ("(columns (now (u .entry)) (now (v .entry)) (now (place .entry)) (now (low .entry)) (now (high .entry)) (now (duv .entry)) "
                  "(now (steps .entry)) (now (class .entry)))")
 PROMISES = {
-    "cct_c::ck_read_records": (BESIDE, f"λ _. ⌜ WritesAgain (readOutcome (now (file .entry)) (sizeOf {COLUMNS_GIVEN})) (now (file .entry)) ⌝",
+    "cct_c::ck_read_records": (BESIDE, f"λ _. ⌜ FileOfRecords (readOutcome (now (file .entry)) (sizeOf {COLUMNS_GIVEN})) (now (file .entry)) ⌝",
                                "as of records::read_records"),
     "cct_c::ck_write_records": (BESIDE, f"λ _. ⌜ ReadsBack (writeOutcome (sizeOf {COLUMNS_GIVEN}) (length (now (file .entry)))) "
                                 f"(listOf {COLUMNS_GIVEN}) ⌝", "as of records::write_records"),
-    "records::read_records": (BESIDE, "λ r. ⌜ WritesAgain r (now (file .entry)) ⌝",
+    "records::read_records": (BESIDE, "λ r. ⌜ FileOfRecords r (now (file .entry)) ⌝",
                               "what `written-read` says of a list of bytes, for the machine's: no hypothesis is left"),
     "records::write_records": (BESIDE, f"λ r. ⌜ ReadsBack r (listOf {COLUMNS_GIVEN}) ⌝",
                                "what `read-written` says of a list of records, for the machine's numbers: no hypothesis is left"),

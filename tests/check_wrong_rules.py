@@ -53,6 +53,26 @@ def too_far_by_the_point_found(reading, admit=ref.admit):
     return admit(reading)
 
 
+def limit_itself_too_far(reading, entry):
+    return ref.squared_distance(reading, entry) >= ref.FARTHEST
+
+
+def limit_in_u_and_in_v_alone(reading, entry):
+    return max(map(abs, ref.minus(reading, entry))) ** 2 > ref.FARTHEST
+
+
+def limit_by_the_whole_root(reading, entry):
+    return ref.root(ref.squared_distance(reading, entry)) > ref.root(ref.FARTHEST)
+
+
+def distance_kept_to(bits, signed=False):
+    """The limit on a distance of which so few bits are kept."""
+    def is_too_far(reading, entry):
+        kept = ref.squared_distance(reading, entry) % 2**bits
+        return kept - (2**bits if signed and kept >= 2 ** (bits - 1) else 0) > ref.FARTHEST
+    return is_too_far
+
+
 def class_of_the_nearest_point_alone(edges, found, classed=ref.class_of):
     return classed(edges, ref.Found(found.nearest, found.nearest, found.nearest))
 
@@ -191,6 +211,11 @@ WRONG_RULES = (
     ("MOST_STEPS", 13),
     ("FARTHEST", ref.FARTHEST - 1),
     ("FARTHEST", ref.FARTHEST + 1),
+    ("FARTHEST", 900_000_000, "the limit before No. 8"),
+    ("FARTHEST", 2**31 - 1, "the limit held to 31 bits"),
+    *(("is_too_far", wrong) for wrong in (limit_itself_too_far, limit_in_u_and_in_v_alone, limit_by_the_whole_root)),
+    ("is_too_far", distance_kept_to(32), "the distance kept to 32 bits"),
+    ("is_too_far", distance_kept_to(32, signed=True), "the distance kept to 32 bits, signed"),
     ("DARK", ref.DARK + 1),
     ("DARK", ref.DARK - 1),
     ("WHOLE_LIMIT", ref.WHOLE_LIMIT - 1),

@@ -8,14 +8,16 @@ import resource
 import signal
 import subprocess
 import sys
+from itertools import product
 
 import file_differences
 import record_cases
 from command_runs import COMMAND, PATIENCE, ROOT, Copy, check, expect, run, shell
 from dice import Dice
 from kept import shown_class
-from record_command import BAD_FILES, EXTREMES, count_writes, kelvin, refused
-from record_files import file_of
+from record_cases import EARLIER, LENGTHS, MOST
+from record_command import BAD_FILES, EARLIER_EXTREMES, EXTREMES, count_writes, kelvin, refused
+from record_files import WRITTEN, file_by, file_of
 
 ONE = (219300, 327100, 23112, 21892, 23866, -2331, 2, 2)
 OTHER = (219300, 327100, 23256, 20672, 25840, -2347, 0, 255)
@@ -28,10 +30,15 @@ def compare(*words, text=b"", **options):
     return run(["compare", *words], text, **options)
 
 
+def file_for(records):
+    """A file of some records: one from before where they are more than are written now."""
+    return file_by(EARLIER if len(records) > MOST[WRITTEN] else WRITTEN, records)
+
+
 def files_in(folder, **lists):
     """Makes a file of each list of records, and returns their names as they are given to a command in that folder."""
     for name, records in lists.items():
-        (folder / f"{name}.rec").write_bytes(file_of(records))
+        (folder / f"{name}.rec").write_bytes(file_for(records))
     return [f"{name}.rec" for name in lists]
 
 
@@ -39,7 +46,7 @@ def files_in(folder, **lists):
 
 
 def entries_of(first, second):
-    return file_differences.compare(file_of(first), file_of(second), 10**6)[2]
+    return file_differences.compare(file_for(first), file_for(second), 10**6)[2]
 
 
 def plain_lines(first, second):
@@ -102,7 +109,7 @@ record 2: v 327100 | 0
 record 2: place 23112 | 0 (4472.1 K | -)
 record 2: low 21892 | 1 (4721.4 K | 103360000.0 K)
 record 2: high 23866 | 65535 (4330.8 K | 1577.2 K)
-record 2: duv -2331 | 32767
+record 2: duv -2331 | 2147483647
 record 2: steps 2 | 255
 record 2: class 2 | 254
 record 3: only in desk.rec
@@ -121,14 +128,14 @@ PLAIN = b"""\
 2 2 23112 0
 2 3 21892 1
 2 4 23866 65535
-2 5 -2331 32767
+2 5 -2331 2147483647
 2 6 2 255
 2 7 2 254
 3 9 0 0
 4 9 0 0
 """
 BENCH = [ONE, ONE, ONE]
-DESK = [ONE, OTHER, (4_294_967_295, 0, 0, 1, 65_535, 32_767, 255, 254), OTHER, ONE]
+DESK = [ONE, OTHER, (4_294_967_295, 0, 0, 1, 65_535, 2_147_483_647, 255, 254), OTHER, ONE]
 
 
 def check_written_out(folder):
@@ -163,17 +170,33 @@ def check_summaries(folder):
 
 
 def check_lists(folder):
-    """Lists of the second program's dice, and the most records that there can be: equal, all different, one field in each, one longer."""
+    """Lists of the second program's dice, and the most records that there can be, which are in files from before: equal, all different, one
+    field in each, one longer."""
     dice = Dice("cradlekeel compare")
     for count, other in ((0, 3), (1, 1), (5, 5), (7, 4), (4, 7), (60, 60)):
         first, second = record_cases.random_records(count, dice), record_cases.random_records(other, dice)
         expect_compared(f"{count} and {other} records", folder, first, second)
         expect_compared(f"{count} and {other} records, the first the same", folder, first, first[:count // 2] + second)
-    most = record_cases.random_records(3600, dice)
+    most = record_cases.random_records(3600, dice, EARLIER)
     for what, second in (("equal", most), ("one field in each", [(u ^ 1, *rest) for u, *rest in most]), ("one less", most[:-1]),
                          ("all different", [(*(n ^ 1 for n in record),) for record in most]), ("none", [])):
         expect_compared(f"3600 records: {what}", folder, most, second)
+    expect_compared("3200 and 3600 records", folder, most[:3200], most)
     check("28,800 differences", len(entries_of(most, [(*(n ^ 1 for n in record),) for record in most])) == 28_800, "fewer")
+
+
+def check_lengths(folder):
+    """Files of either record length: the same records are the same, and what differs is printed as ever."""
+    names = ["first.rec", "second.rec"]
+    for (one, other), (first, second) in product(product(LENGTHS, repeat=2), ((EARLIER_EXTREMES,) * 2, ([ONE, OTHER], [ONE, ONE, OTHER]), ([], [ONE]))):
+        for name, file in zip(names, (file_by(one, first), file_by(other, second))):
+            (folder / name).write_bytes(file)
+        status = SAME if first == second else DIFFERENT
+        expect(f"records of {one} and {other} bytes", compare(*names, cwd=folder), printed(first, second, *names), status=status)
+    earlier, wide = [(*ONE[:5], 15_536, 0, 0)], [(*ONE[:5], -50_000, 0, 0)]
+    (folder / "first.rec").write_bytes(file_by(EARLIER, earlier))
+    (folder / "second.rec").write_bytes(file_of(wide))
+    expect("Duv that agree in 16 bits", compare("--plain", *names, cwd=folder), b"0 5 15536 -50000\n", status=DIFFERENT)
 
 
 # --- Which files are compared -----------------------------------------------------------------------------------------
@@ -239,7 +262,7 @@ def check_missing_files(folder):
     good, empty = files_in(folder, good=EXTREMES, none=[])
     (folder / "bad.rec").write_bytes(b"")
     os.mkfifo(folder / "pipe")
-    long = b"over 1,179,638 bytes, longer than any record file"
+    long = b"over 1,310,708 bytes, longer than any record file"
     faults = {"missing.rec": b"No such file or directory", ".": b"Is a directory", "/dev/zero": long, "good.rec/x": b"Not a directory"}
     for name, fault in faults.items():
         said = b"cradlekeel: " + name.encode() + b": " + fault + b"\n"
@@ -293,7 +316,7 @@ WRONG_USAGE = {(): TWO_FILES, ("a",): TWO_FILES, ("a", "b", "c"): TWO_FILES, ("a
 
 HELP = ("it is all: no differences in 14 records", "low the hot end of the range and high the cool one", "in bash: diff <(cradlekeel show bench.rec)",
         "A line that was refused for one file only has no record there", "141 the reader of the lines went away",
-        "with the reason and, where it is refused, its number")
+        "with the reason and, where it is refused, its number", "with records of 18 bytes instead of 20")
 
 
 def check_usage(folder):
@@ -345,5 +368,5 @@ def check_fault(folder):
     check("a fault", ran.returncode == TROUBLE and not ran.stdout and b"ZeroDivisionError" in ran.stderr, ran)
 
 
-PARTS = (check_written_out, check_summaries, check_lists, check_names, check_one_file, check_bad_files, check_missing_files, check_output,
+PARTS = (check_written_out, check_summaries, check_lists, check_lengths, check_names, check_one_file, check_bad_files, check_missing_files, check_output,
          check_usage, check_missing, check_fault, check_copy)

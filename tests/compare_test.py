@@ -5,6 +5,7 @@ import copy
 import pickle
 import subprocess
 import tempfile
+from itertools import product
 from pathlib import Path
 
 import cradlekeel
@@ -15,13 +16,14 @@ import vectors
 from cradlekeel import ONLY_FIRST, ONLY_SECOND, REASONS, Difference, FileRefusal, Record, Refusal, compare_files
 from dice import Dice
 from record_calls import expect
-from record_files import file_of
+from record_cases import EARLIER, LENGTHS, MOST
+from record_files import file_by, file_of
 from record_test import FORMS
 from spectrum_test import fault_of
 
 ROOT = Path(__file__).resolve().parent.parent
 GOOD = Record(219300, 327100, 23112, 21892, 23866, -2331, 2, 2)
-UNREADABLE = {13: b"", 14: bytes(8), 15: record_files.TRAILER.pack(18, 1, 18), 11: file_of(3601 * [GOOD])}  # by their refusals
+UNREADABLE = {13: b"", 14: bytes(8), 15: record_files.TRAILER.pack(20, 1, 20), 11: file_of(3201 * [GOOD])}  # by their refusals
 AMPLE = 10**6  # numbers of a target
 
 # --- Without the library ----------------------------------------------------------------------------------------------
@@ -128,26 +130,27 @@ def run_vectors():
 
 
 def check_files():
-    """Random files of any two lengths, files that share some records or fields, and files that cannot be read, either way round."""
+    """Random files of any two counts and record lengths, files that share some records or fields, and files that cannot be read, either way
+    round."""
     dice = Dice("comparisons from Python")
     for count, other in ((0, 0), (0, 1), (1, 1), (2, 5), (9, 9), (40, 3)):
-        first, second = record_cases.random_records(count, dice), record_cases.random_records(other, dice)
-        for pair in ((first, second), (first, first), (first, first[:count // 2] + second), (first, second[:1] + first[1:])):
-            for one, two in (pair, pair[::-1]):
-                check_pair(file_of(one), file_of(two))
-    for one in (*UNREADABLE.values(), file_of([GOOD])):
-        for two in (*UNREADABLE.values(), file_of([])):
-            check_pair(one, two)
+        for one_length, two_length in product(LENGTHS, repeat=2):
+            first, second = (record_cases.random_records(each, dice, min(one_length, two_length)) for each in (count, other))
+            for one, two in ((first, second), (first, first), (first, first[:count // 2] + second), (second[:1] + first[1:], first)):
+                check_pair(file_by(one_length, one), file_by(two_length, two))
+    unreadable = (*UNREADABLE.values(), file_by(EARLIER, 3601 * [GOOD]))
+    for one, two in product((*unreadable, file_of([GOOD])), (*unreadable, file_by(EARLIER, []))):
+        check_pair(one, two)
 
 
-OTHER = Record(4_294_967_295, 0, 65_535, 0, 1, 32_767, 255, 255)
+OTHER = Record(4_294_967_295, 0, 65_535, 0, 1, 2**31 - 1, 255, 255)
 
 
 def check_by_hand():
     """Differences that are worked out by hand, in their order, signed and as plain whole numbers."""
-    first, second = file_of([GOOD, GOOD._replace(duv=-32_768)]), file_of([GOOD._replace(v=1, class_index=255), OTHER, GOOD])
+    first, second = file_of([GOOD, GOOD._replace(duv=-2**31)]), file_of([GOOD._replace(v=1, class_index=255), OTHER, GOOD])
     expected = [(0, 1, 327100, 1), (0, 7, 2, 255), (1, 0, 219300, 4_294_967_295), (1, 1, 327100, 0), (1, 2, 23112, 65_535), (1, 3, 21892, 0),
-                (1, 4, 23866, 1), (1, 5, -32_768, 32_767), (1, 6, 2, 255), (1, 7, 2, 255), (2, 9, 0, 0)]
+                (1, 4, 23866, 1), (1, 5, -2**31, 2**31 - 1), (1, 6, 2, 255), (1, 7, 2, 255), (2, 9, 0, 0)]
     found = compare_files(first, second)
     assert found == expected and {type(each) for each in found} == {Difference} and {type(n) for each in found for n in each} == {int}
     swapped = [(record, 8 if field == 9 else field, b, a) for record, field, a, b in expected]
@@ -155,20 +158,28 @@ def check_by_hand():
     assert python_compare(first, second, 11)[:2] == (0, 0) and python_compare(first, second, 10) == (0, 12, [])
     assert python_compare(first, first, 0) == (0, 0, []) and python_compare(b"", b"", 0) == (1, 13, [])
     assert python_compare(first, b"", 0) == (2, 13, []) and python_compare(b"", first, 0) == (1, 13, [])
+    earlier, cut = file_by(EARLIER, [GOOD]), GOOD._replace(duv=GOOD.duv + 2**16)
+    assert compare_files(earlier, file_of([GOOD])) == [] == compare_files(file_of([GOOD]), earlier)
+    assert compare_files(earlier, file_of([cut])) == [(0, 5, GOOD.duv, cut.duv)] and compare_files(second, earlier)[0] == (0, 1, 1, 327100)
 
 
 def check_most():
-    """As many records as a file has, equal, all different, one field in each, and none on one side."""
-    most = record_cases.random_records(3600, Dice("the most comparisons"))
+    """As many records as a file of each length has, equal, all different, one field in each, none on one side, and beside those of the other
+    length."""
+    most = record_cases.random_records(3600, Dice("the most comparisons"), EARLIER)
     other = [tuple(number ^ 1 for number in record) for record in most]
     one_field = [(*record[:i % 8], record[i % 8] ^ 1, *record[i % 8 + 1:]) for i, record in enumerate(most)]
     pairs = ((most, most), (most, other), (most, one_field), (most, []), ([], most), (most[:-1], most))
-    assert [check_pair(file_of(one), file_of(two)) for one, two in pairs] == [0, 28_800, 3600, 3600, 3600, 1]
+    for length, count in MOST.items():
+        found = [check_pair(*(file_by(length, records[:count]) for records in pair)) for pair in pairs[:-1]]
+        assert found == [0, 8 * count, count, count, count], (length, found)
+    assert check_pair(*(file_by(EARLIER, records) for records in pairs[-1])) == 1
+    assert check_pair(file_of(most[:3200]), file_by(EARLIER, most)) == 400 and check_pair(file_by(EARLIER, other), file_of(most[:3200])) == 26_000
 
 
 def check_bytes_like():
     """Either file may be any bytes-like object, is not changed by being compared, and can be changed afterwards."""
-    first, second = (file_of(record_cases.random_records(3, Dice(f"bytes-like {k}"))) for k in range(2))
+    first, second = (file_by(length, record_cases.random_records(3, Dice(f"bytes-like {length}"), length)) for length in LENGTHS)
     expected = file_differences.compare(first, second, AMPLE)
     for form in FORMS:
         for other in (form, bytes):
@@ -200,11 +211,14 @@ def check_example():
     """The program prints what the second program lists, ends as cmp does, and names a file that it cannot compare."""
     with tempfile.TemporaryDirectory() as folder:
         paths = [Path(folder) / name for name in ("bench.rec", "desk.rec")]
-        most = record_cases.random_records(3600, Dice("examples/compare.c"))
-        for records in (([], []), ([GOOD], [GOOD]), ([GOOD, GOOD], [GOOD, OTHER]), ([GOOD, OTHER], [OTHER]), ([], [GOOD]), (most, most[1:])):
-            for path, each in zip(paths, records):
-                path.write_bytes(file_of(each))
-            entries = file_differences.compare(*map(file_of, records), AMPLE)[2]
+        most = record_cases.random_records(3600, Dice("examples/compare.c"), EARLIER)
+        for records, lengths in ((([], []), (20, 20)), (([GOOD], [GOOD]), (18, 20)), (([GOOD, GOOD], [GOOD, OTHER]), (18, 20)),
+                                 (([GOOD, OTHER], [OTHER]), (20, 20)), (([], [GOOD]), (20, 18)), ((most, most[1:]), (18, 18)),
+                                 ((most[:3200], most), (20, 18))):
+            files = [file_by(*each) for each in zip(lengths, records)]
+            for path, file in zip(paths, files):
+                path.write_bytes(file)
+            entries = file_differences.compare(*files, AMPLE)[2]
             ran, lines = run_example(*paths), [example_line(entry, paths) for entry in entries]
             assert (ran.stdout.splitlines(), ran.stderr, ran.returncode) == (lines, "", 1 if entries else 0), ran
         with open("/dev/full", "wb") as full:
@@ -227,7 +241,7 @@ def example_fault(paths, *files):
 
 def check_example_on_bad_files(paths):
     good = file_of([GOOD])
-    for one in (*UNREADABLE.values(), good):
+    for one in (*UNREADABLE.values(), file_by(EARLIER, 3601 * [GOOD]), good):
         for two in UNREADABLE.values():
             paths[0].write_bytes(one), paths[1].write_bytes(two)
             said = example_fault(paths, one, two)

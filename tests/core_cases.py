@@ -4,10 +4,11 @@ from fractions import Fraction
 from itertools import product
 from math import floor
 
+import document_cases
 import reference as ref
 from dice import Dice
-from readings import (PLACES, about_piece, admitted, at_the_limit, behind_an_end, best_outside, comparisons, entry_ties, level_ties,
-                      looks, search_ties)
+from readings import (PLACES, about_piece, admitted, at_the_earlier_limit, at_the_limit, behind_an_end, beside_the_limit, best_outside,
+                      comparisons, entry_ties, is_admitted, level_ties, looks, search_ties)
 
 ON_EDGES = [place for place in PLACES if ref.kelvin_at(place).denominator == 1]
 RUN = 100  # places to a line `points`
@@ -40,8 +41,9 @@ def points_lines(dice):
 
 
 def entry_lines(dice):
-    """Ties between two entries, both limits, both ends, each entry itself, the far corners, and any reading."""
-    readings = entry_ties(dice, 300) + [ref.entry_point(i) for i in ref.ENTRIES] + list(at_the_limit())
+    """Ties between two entries, the limit and the one before it, both ends, each entry itself, the far corners, and any reading."""
+    readings = entry_ties(dice, 300) + [ref.entry_point(i) for i in ref.ENTRIES] + [reading for reading, _ in document_cases.LIMITS]
+    readings += at_the_limit() + beside_the_limit(dice, 120) + at_the_earlier_limit()
     readings += list(behind_an_end(1, 2, 20)) + list(behind_an_end(24, 23, 20))
     readings += list(product((0, 1, 4_000_000), repeat=2))
     readings += [(dice.below(600_000), dice.below(600_000)) for _ in range(300)]
@@ -51,13 +53,15 @@ def entry_lines(dice):
 
 
 def search_readings(dice):
-    """Plain readings, both end pieces, equal inner points, a point as near as the nearest seen, a nearest one outside the bracket."""
+    """Plain readings, both end pieces, equal inner points, a point as near as the nearest seen, a nearest one outside the bracket, and
+    readings at the limit and at the one before it."""
     readings = [admitted(dice) for _ in range(150)] + [about_piece(dice, i) for i in (1, 23) for _ in range(30)]
     readings += level_ties(dice, 40)
     readings += search_ties(dice, comparisons, 150) + search_ties(dice, looks, 100) + best_outside(dice, 60)
     readings += [reading for reading in entry_ties(dice, 60) if ref.squared_distance(
         reading, ref.entry_point(ref.nearest_entry(reading))) <= ref.FARTHEST]
-    return readings + [ref.entry_point(i) for i in ref.ENTRIES]
+    far = filter(is_admitted, at_the_limit()[::3] + beside_the_limit(dice, 20) + at_the_earlier_limit()[::9])
+    return readings + list(far) + [ref.entry_point(i) for i in ref.ENTRIES]
 
 
 def search_lines(dice):

@@ -1,5 +1,5 @@
 """Document 01's own cases, typed in from the document and never from our program's output: the listing, the (P) cases and the
-"Also run" list; and cases of document 02's No. 1 to 4, 6 and 7, worked out apart from the reference. `check()` holds it to them all."""
+"Also run" list; and cases of document 02's No. 1 to 4 and 6 to 8, worked out apart from the reference. `check()` holds it to them all."""
 
 from fractions import Fraction
 from itertools import product
@@ -10,14 +10,17 @@ import record_files
 import reference as ref
 from floats import NEGATIVE_INFINITY, QUIET_NAN, nearest_f32
 
-# Lines 3 and 4 look between entries: their Duv, -2331 and -2061, are those of document 02's No. 3, by Lagrange's form.
+# Lines 3 and 4 look between entries: their Duv, -2331 and -2061, are those of document 02's No. 3, by Lagrange's form. Lines 6 to 8
+# are about the limit of its No. 8.
 LISTING = (
     ("255910 349510 0", "0 36176 33592 38760 0 0 1"),
     ("219300 327100 0", "0 23256 20672 25840 -2347 0 -"),
     ("219300 327100 2", "0 23112 21892 23866 -2331 2 2"),
     ("341150 360520 0", "0 62626 59432 64600 -2061 0 0"),
     ("345070 330530 0", "0 64600 62016 64600 -30000 0 0"),
-    ("345070 330529 0", "5"),
+    ("345070 330529 0", "0 64600 62016 64600 -30001 0 0"),
+    ("345070 310530 0", "0 64600 62016 64600 -50000 0 0"),
+    ("345070 310529 0", "5"),
     ("183000 276000", "6"),
     ("346000 360540", "7"),
     ("0 0", "5"),
@@ -44,6 +47,25 @@ REFUSALS = (
     ("xyz", ("1", "0", "1"), GOOD_EDGES, 4),
     ("uv", ("1/4", "1/4"), (5000,), 1),
     ("uv", ("1/4", "1/4"), (5000, 5000), 1),
+)
+
+# Readings at the limit of No. 8 and beside it: entry m with the distance, or the number of refusal 5 or 6. 50,000 is the long side of
+# triangles with 14,000 and 48,000 and with 17,600 and 46,800; each offset is from the entry named.
+LIMITS = (
+    ((241_910, 397_510), (13, 2_500_000_000)),  # -14,000 and 48,000 from entry 13; entries 12 and 14 are farther
+    ((241_910, 397_511), 5),
+    ((241_909, 397_510), 5),
+    ((241_910, 397_509), (13, 2_499_904_001)),
+    ((269_910, 301_510), (13, 2_500_000_000)),  # 14,000 and -48,000
+    ((269_910, 301_509), 5),
+    ((269_911, 301_510), 5),
+    ((345_069, 310_530), 5),  # -1 and -50,000 from entry 24: one over
+    ((345_071, 310_530), 5),
+    ((345_070, 310_531), (24, 2_499_900_001)),
+    ((231_870, 263_150), (1, 2_500_000_000)),  # 48,000 and -14,000 from entry 1; the dot is 26,120,000
+    ((231_871, 263_150), 5),
+    ((230_670, 259_550), 6),  # 46,800 and -17,600; the dot is -5,896,000
+    ((230_671, 259_550), 5),  # 5 comes before 6
 )
 
 # Half the unit is 1/2,000,000 for coordinates, between 2^-21 and 2^-20, and 1/200,000 for tristimulus values, between 2^-18 and
@@ -89,61 +111,103 @@ SPECTRA = (
     (((1,), (1,), (1,), (4_000_001,)), 10),
 )
 
-# Lists of records, and their files byte by byte: a record of bytes that all differ, and the answers to lines 1 and 2 of the
-# listing.
-EMPTY_FILE = "12 00 00 00 00 00 00 00"
+# Lists of records, their files byte by byte, and their files of records of 18 bytes where their Duv fit those: a record of bytes that
+# all differ, the answers to lines 1 and 2 of the listing, the answer to its line 7, and the largest and the least Duv.
+EMPTY_FILE, EARLIER_EMPTY_FILE = "14 00 00 00 00 00 00 00", "12 00 00 00 00 00 00 00"
 RECORD_FILES = (
-    ((), EMPTY_FILE),
+    ((), EMPTY_FILE, EARLIER_EMPTY_FILE),
     (((0x01020304, 0x05060708, 0x090A, 0x0B0C, 0x0D0F, -2, 14, 255),),
+     "04 03 02 01 08 07 06 05 0a 09 0c 0b 0f 0d fe ff ff ff 0e ff 14 00 01 00 14 00 00 00",
      "04 03 02 01 08 07 06 05 0a 09 0c 0b 0f 0d fe ff 0e ff 12 00 01 00 12 00 00 00"),
     (((255910, 349510, 36176, 33592, 38760, 0, 0, 1), (219300, 327100, 23256, 20672, 25840, -2347, 0, 255)),
+     "a6 e7 03 00 46 55 05 00 50 8d 38 83 68 97 00 00 00 00 00 01 a4 58 03 00 bc fd 04 00 d8 5a c0 50 f0 64 d5 f6 ff ff 00 ff "
+     "14 00 02 00 28 00 00 00",
      "a6 e7 03 00 46 55 05 00 50 8d 38 83 68 97 00 00 00 01 a4 58 03 00 bc fd 04 00 d8 5a c0 50 f0 64 d5 f6 00 ff "
      "12 00 02 00 24 00 00 00"),
+    (((345070, 310530, 64600, 62016, 64600, -50000, 0, 0),),
+     "ee 43 05 00 02 bd 04 00 58 fc 40 f2 58 fc b0 3c ff ff 00 00 14 00 01 00 14 00 00 00", None),
+    (((0, 0, 0, 0, 0, 2_147_483_647, 0, 0), (0, 0, 0, 0, 0, -2_147_483_648, 0, 0)),
+     "00 " * 14 + "ff ff ff 7f 00 00 " + "00 " * 14 + "00 00 00 80 00 00 14 00 02 00 28 00 00 00", None),
+    (((0, 0, 0, 0, 0, 32_767, 0, 0), (0, 0, 0, 0, 0, -32_768, 0, 0)),
+     "00 " * 14 + "ff 7f 00 00 00 00 " + "00 " * 14 + "00 80 ff ff 00 00 14 00 02 00 28 00 00 00",
+     "00 " * 14 + "ff 7f 00 00 " + "00 " * 14 + "00 80 00 00 12 00 02 00 24 00 00 00"),
 )
 
 # A file, the room for records, and the refusal's number, 0 where it is read; most of those that are refused break a later rule too.
 UNREADABLE_FILES = (
     (EMPTY_FILE, 0, 0),
+    (EARLIER_EMPTY_FILE, 0, 0),
     ("00 00 00 00 00 00 00", 0, 13),
-    ("14 00 11 0e 00 00 00 00", 0, 14),  # 20 for 18, and 3,601 records
+    ("13 00 11 0e 00 00 00 00", 0, 14),  # 19 for 18 or 20, and 3,601 records
     ("12 00 11 0e 00 00 00 00", 0, 15),  # the distance is 0
-    ("12 00 11 0e 32 fd 00 00", 0, 15),  # the distance, 64,818, is that of 3,601 records, and there are none
+    ("14 00 81 0c 00 00 00 00", 0, 15),
+    ("12 00 11 0e 32 fd 00 00", 0, 15),  # the distance, 64,818, is that of 3,601 records of 18, and there are none
+    ("14 00 81 0c 14 fa 00 00", 0, 15),  # the distance, 64,020, is that of 3,201 records of 20, and there are none
     ("00 " * 18 + "12 00 00 00 00 00 00 00", 1, 15),  # the trailer has no records, and the file has one
+    ("00 " * 20 + "14 00 00 00 00 00 00 00", 1, 15),
     ("00 " * 18 + "12 00 01 00 1a 00 00 00", 1, 15),  # the distance to the end of the file
+    ("00 " * 20 + "14 00 01 00 1c 00 00 00", 1, 15),
+    ("00 " * 20 + "12 00 01 00 14 00 00 00", 1, 15),  # the distance and the bytes of a record of the other length
+    ("00 " * 18 + "14 00 01 00 12 00 00 00", 1, 15),
+    ("00 " * 180 + "12 00 0a 00 b4 00 00 00", 10, 0),  # 180 bytes are ten records of 18 and nine of 20
+    ("00 " * 180 + "14 00 09 00 b4 00 00 00", 9, 0),
+    ("00 " * 180 + "12 00 09 00 b4 00 00 00", 10, 15),
+    ("00 " * 180 + "14 00 0a 00 b4 00 00 00", 10, 15),
     ("00 " * 64_818 + "12 00 11 0e 32 fd 00 00", 0, 11),
     ("00 " * 64_800 + "12 00 10 0e 20 fd 00 00", 3600, 0),
     ("00 " * 64_800 + "12 00 10 0e 20 fd 00 00", 3599, 12),
+    ("00 " * 57_618 + "12 00 81 0c 12 e1 00 00", 3201, 0),  # 3,201 records of 18
+    ("00 " * 64_020 + "14 00 81 0c 14 fa 00 00", 3201, 11),
+    ("00 " * 72_000 + "14 00 10 0e 40 19 01 00", 3600, 11),  # 3,600 records of 20
+    ("00 " * 64_000 + "14 00 80 0c 00 fa 00 00", 3200, 0),
+    ("00 " * 64_000 + "14 00 80 0c 00 fa 00 00", 3199, 12),
 )
 
 # How many records, the target's room in bytes, and the refusal's number, 0 where they are written.
-UNWRITTEN_FILES = ((0, 8, 0), (0, 7, 12), (3600, 64_808, 0), (3600, 64_807, 12), (3601, 64_826, 11), (3601, 0, 11), (65_536, 8, 11))
+UNWRITTEN_FILES = ((0, 8, 0), (0, 7, 12), (3200, 64_008, 0), (3200, 64_007, 12), (3201, 64_028, 11), (3201, 0, 11), (3600, 72_008, 11),
+                   (65_536, 8, 11))
 
 # The file of lines 1 and 2 of the listing as the bench keeps it, with another Duv and class in record 1 and a record of zeros more.
-BENCH_FILE = ("a6 e7 03 00 46 55 05 00 50 8d 38 83 68 97 00 00 00 01 a4 58 03 00 bc fd 04 00 d8 5a c0 50 f0 64 2b 09 00 03 " + "00 " * 18 +
-              "12 00 03 00 36 00 00 00")
+BENCH_FILE = ("a6 e7 03 00 46 55 05 00 50 8d 38 83 68 97 00 00 00 00 00 01 a4 58 03 00 bc fd 04 00 d8 5a c0 50 f0 64 2b 09 00 00 00 03 " +
+              "00 " * 20 + "14 00 03 00 3c 00 00 00")
+EARLIER_BENCH_FILE = ("a6 e7 03 00 46 55 05 00 50 8d 38 83 68 97 00 00 00 01 a4 58 03 00 bc fd 04 00 d8 5a c0 50 f0 64 2b 09 00 03 " +
+                      "00 " * 18 + "12 00 03 00 36 00 00 00")
+_, DESK_FILE, EARLIER_DESK_FILE = RECORD_FILES[2]
+
+# The answer to line 7 of the listing in a record of 18 bytes, where its Duv has lost its upper half.
+CUT_FILE = "ee 43 05 00 02 bd 04 00 58 fc 40 f2 58 fc b0 3c 00 00 12 00 01 00 12 00 00 00"
 
 # Two files, and all entries of comparing them.
+BENCH_ENTRIES = ((1, 5, -2347, 2347), (1, 7, 255, 3), (2, 9, 0, 0))
 COMPARED_FILES = (
     (EMPTY_FILE, EMPTY_FILE, ()),
+    (EMPTY_FILE, EARLIER_EMPTY_FILE, ()),
     (BENCH_FILE, BENCH_FILE, ()),
-    (RECORD_FILES[2][1], BENCH_FILE, ((1, 5, -2347, 2347), (1, 7, 255, 3), (2, 9, 0, 0))),
-    (BENCH_FILE, RECORD_FILES[2][1], ((1, 5, 2347, -2347), (1, 7, 3, 255), (2, 8, 0, 0))),
-    (RECORD_FILES[1][1], RECORD_FILES[2][1],
+    (BENCH_FILE, EARLIER_BENCH_FILE, ()),
+    (EARLIER_DESK_FILE, DESK_FILE, ()),
+    *((desk, bench, BENCH_ENTRIES) for desk in (DESK_FILE, EARLIER_DESK_FILE) for bench in (BENCH_FILE, EARLIER_BENCH_FILE)),
+    (BENCH_FILE, DESK_FILE, ((1, 5, 2347, -2347), (1, 7, 3, 255), (2, 8, 0, 0))),
+    (EARLIER_BENCH_FILE, DESK_FILE, ((1, 5, 2347, -2347), (1, 7, 3, 255), (2, 8, 0, 0))),
+    (RECORD_FILES[1][1], DESK_FILE,
      ((0, 0, 16_909_060, 255_910), (0, 1, 84_281_096, 349_510), (0, 2, 2314, 36_176), (0, 3, 2828, 33_592), (0, 4, 3343, 38_760),
       (0, 5, -2, 0), (0, 6, 14, 0), (0, 7, 255, 1), (1, 9, 0, 0))),
-    (BENCH_FILE, EMPTY_FILE, ((0, 8, 0, 0), (1, 8, 0, 0), (2, 8, 0, 0))),
+    (BENCH_FILE, EARLIER_EMPTY_FILE, ((0, 8, 0, 0), (1, 8, 0, 0), (2, 8, 0, 0))),
+    (RECORD_FILES[3][1], CUT_FILE, ((0, 5, -50_000, 15_536),)),
+    (RECORD_FILES[4][1], RECORD_FILES[5][2], ((0, 5, 2_147_483_647, 32_767), (1, 5, -2_147_483_648, -32_768))),
 )
 
 # Two files, the room in numbers, which file is refused, and the refusal's number.
 UNCOMPARED_FILES = (
     ("", "", 0, (1, 13)),
-    ("00 00 00 00 00 00 00", "14 00 00 00 00 00 00 00", 4, (1, 13)),
-    ("14 00 00 00 00 00 00 00", "", 4, (1, 14)),
+    ("00 00 00 00 00 00 00", "13 00 00 00 00 00 00 00", 4, (1, 13)),
+    ("13 00 00 00 00 00 00 00", "", 4, (1, 14)),
     ("12 00 01 00 12 00 00 00", EMPTY_FILE, 4, (1, 15)),
-    (EMPTY_FILE, "14 00 00 00 00 00 00 00", 0, (2, 14)),
-    (BENCH_FILE, "12 00 01 00 12 00 00 00", 0, (2, 15)),
+    (EMPTY_FILE, "13 00 00 00 00 00 00 00", 0, (2, 14)),
+    (BENCH_FILE, "14 00 01 00 14 00 00 00", 0, (2, 15)),
     (EMPTY_FILE, "00 " * 64_818 + "12 00 11 0e 32 fd 00 00", 0, (2, 11)),
-    (RECORD_FILES[2][1], BENCH_FILE, 11, (0, 12)),
+    (EARLIER_EMPTY_FILE, "00 " * 64_020 + "14 00 81 0c 14 fa 00 00", 0, (2, 11)),
+    (DESK_FILE, BENCH_FILE, 11, (0, 12)),
+    (EARLIER_DESK_FILE, BENCH_FILE, 11, (0, 12)),
     (BENCH_FILE, EMPTY_FILE, 0, (0, 12)),
 )
 
@@ -194,6 +258,16 @@ def check_refusals():
         assert found == ref.Answer(expected), (kind, args, edges, expected, found)
 
 
+def check_limits():
+    for reading, expected in LIMITS:
+        try:
+            m = ref.admit(reading)
+            found = m, ref.squared_distance(reading, ref.entry_point(m))
+        except ref.Refused as refused:
+            found = refused.number
+        assert found == expected, (reading, expected, found)
+
+
 def check_below_zero():
     for kind, args, expected in BELOW_ZERO:
         found = ref.converted(kind, map(bits, args))
@@ -242,11 +316,14 @@ def check_cubics():
 
 
 def check_record_files():
-    assert (record_files.RECORD.size, record_files.TRAILER.size) == (18, 8)
-    for records, text in RECORD_FILES:
+    assert {length: record.size for length, record in record_files.RECORDS.items()} == {18: 18, 20: 20}
+    for records, text, earlier in RECORD_FILES:
         file = bytes.fromhex(text)
         assert record_files.write(list(records), len(file)) == (0, file), (records, text)
-        assert record_files.read(file, len(records)) == (0, list(records)), (records, text)
+        for each in filter(None, (text, earlier)):
+            assert record_files.read(bytes.fromhex(each), len(records)) == (0, list(records)), (records, each)
+            found = [record_files.file_record(bytes.fromhex(each), index) for index in range(len(records) + 1)]
+            assert found == [*records, (0,) * 8], (records, each)
     for text, room, expected in UNREADABLE_FILES:
         found, _ = record_files.read(bytes.fromhex(text), room)
         assert found == expected, (text[-23:], room, expected, found)
@@ -257,12 +334,13 @@ def check_record_files():
 
 def check_targets():
     """Beyond what is written or read a target keeps what it held, and after a refusal all of it."""
-    records, text = RECORD_FILES[1]
-    file, columns = bytes.fromhex(text), list(zip(*records))
-    assert record_files.write_into(b"." * 28, columns) == (0, 26, file + b"..")
-    assert record_files.write_into(b"." * 25, columns) == (12, 0, b"." * 25)
-    assert record_files.read_into([(7, 8)] * 8, file) == (0, 1, [(number, 8) for number in records[0]])
-    assert record_files.read_into([(7, 8)] * 7 + [()], file) == (12, 0, [(7, 8)] * 7 + [()])
+    records, *texts = RECORD_FILES[1]
+    (file, earlier), columns = map(bytes.fromhex, texts), list(zip(*records))
+    assert record_files.write_into(b"." * 30, columns) == (0, 28, file + b"..")
+    assert record_files.write_into(b"." * 27, columns) == (12, 0, b"." * 27)
+    for each in (file, earlier):
+        assert record_files.read_into([(7, 8)] * 8, each) == (0, 1, [(number, 8) for number in records[0]])
+        assert record_files.read_into([(7, 8)] * 7 + [()], each) == (12, 0, [(7, 8)] * 7 + [()])
 
 
 def check_comparisons():
@@ -280,11 +358,11 @@ def check_board():
     for count, refusal in LOADS:
         board, told = board_table.load([(1,) * 8] * count)
         assert told == (refusal, 0, None) and len(board) == (0 if refusal else count), (count, told)
-    records = RECORD_FILES[2][0]
-    board, _ = board_table.load(list(records))
-    for (name, *numbers), (refusal, stamp, lot) in MORNING:
-        board, told = getattr(board_table, name)(board, *numbers)
-        assert told == (refusal, stamp, lot and (records[numbers[0]], *lot)), (name, numbers, told)
+    for records in (RECORD_FILES[2][0], RECORD_FILES[4][0]):
+        board, _ = board_table.load(list(records))
+        for (name, *numbers), (refusal, stamp, lot) in MORNING:
+            board, told = getattr(board_table, name)(board, *numbers)
+            assert told == (refusal, stamp, lot and (records[numbers[0]], *lot)), (name, numbers, told)
 
 
 def check_last_stamps():
@@ -297,6 +375,7 @@ def check():
     check_conversions()
     check_listing()
     check_refusals()
+    check_limits()
     check_below_zero()
     check_spectra()
     check_allowances()

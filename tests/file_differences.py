@@ -1,8 +1,8 @@
-"""Comparing two record files, No. 7 of document 02: the second program's part for it, by dictionaries, sets and one sort.
+"""Comparing two record files, No. 7 and 8 of document 02: the second program's part for it, by dictionaries, sets and one sort.
 
 What a file holds is a dictionary from (record, field) to number, both counted from 0. An entry is a tuple of its four numbers."""
 
-from record_files import NO_ROOM, form, over, record_at
+from record_files import NO_ROOM, form, over, read
 
 ONLY_IN_FIRST, ONLY_IN_SECOND = 8, 9  # in the place of a field: the record that one file alone has
 NUMBERS = 4  # of an entry
@@ -18,9 +18,9 @@ def unreadable(*files):
 
 
 def contents(file):
-    """What a file that can be read holds."""
-    _, count = form(file)
-    return {(record, field): number for record in range(count) for field, number in enumerate(record_at(file, record))}
+    """What a file that can be read holds, whatever its record length."""
+    _, records = read(file, len(file))
+    return {(at, field): number for at, record in enumerate(records) for field, number in enumerate(record)}
 
 
 # --- Entries ----------------------------------------------------------------------------------------------------------

@@ -1,6 +1,6 @@
 """Random and damaged record files, most of them nearly good, for fuzz_files and fuzz_compares."""
 
-from record_cases import LENGTH, MOST, TRAILER, damaged, trailer, with_trailer
+from record_cases import LENGTHS, MOST, TRAILER, damaged, trailer, with_trailer
 
 
 def random_bytes(count, dice):
@@ -8,9 +8,10 @@ def random_bytes(count, dice):
 
 
 def good_file(dice):
-    """Any records: mostly a few, now and then about as many as there may be."""
-    count = dice.pick((MOST - 1, MOST, MOST + 1, 2 * MOST)) if dice.below(8) == 0 else dice.below(9)
-    return with_trailer(random_bytes(LENGTH * count, dice))
+    """Any records of either length: mostly a few, now and then about as many as there may be of one length or the other."""
+    length, most = dice.pick(LENGTHS), dice.pick(list(MOST.values()))
+    count = dice.pick((most - 1, most, most + 1, 2 * most)) if dice.below(8) == 0 else dice.below(12)
+    return with_trailer(length, random_bytes(length * count, dice))
 
 
 def damaged_file(dice):
@@ -30,10 +31,11 @@ def cut_file(dice):
 
 def forged_file(dice):
     """Any bytes before a trailer whose numbers nearly agree."""
-    size = dice.pick((0, dice.below(200), LENGTH * dice.below(10)))
-    count = dice.pick((size // LENGTH, dice.below(12), MOST + dice.below(3), dice.getrandbits(16)))
-    distance = dice.pick((size, LENGTH * count, size + TRAILER, LENGTH * count % 2**16, dice.getrandbits(32)))
-    return random_bytes(size, dice) + trailer(dice.pick((LENGTH, LENGTH, LENGTH, 17, 20, dice.getrandbits(16))), count, distance)
+    length, other = dice.pick((LENGTHS, LENGTHS[::-1]))
+    size = dice.pick((0, dice.below(200), length * dice.below(10), other * dice.below(10), 180))
+    count = dice.pick((size // length, size // other, dice.below(12), MOST[length] + dice.below(3), dice.getrandbits(16)))
+    distance = dice.pick((size, length * count, other * count, size + TRAILER, length * count % 2**16, dice.getrandbits(32)))
+    return random_bytes(size, dice) + trailer(dice.pick((length, length, length, length, 19, dice.getrandbits(16))), count, distance)
 
 
 def any_bytes(dice):

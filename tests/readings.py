@@ -1,12 +1,14 @@
 """Readings in whole micro that are hard for the search and its refusals, and the same readings as floats of each kind."""
 
 from fractions import Fraction
+from itertools import product
 from math import gcd, isqrt
 
 import reference as ref
 from floats import nearest_f32
 
-LIMIT_RADIUS = 30_000
+LIMIT_RADIUS = isqrt(ref.FARTHEST)
+EARLIER_LIMIT = 900_000_000  # the limit before No. 8, now well inside
 PLACES = range(ref.FIRST_PLACE, ref.LAST_PLACE + 1)
 
 
@@ -23,7 +25,7 @@ def near_locus(dice, spread):
     return u + dice.between(-spread, spread), v + dice.between(-spread, spread)
 
 
-def admitted(dice, spread=21_000):
+def admitted(dice, spread=35_000):
     """A reading that refusals 5 to 7 let through."""
     while True:
         reading = near_locus(dice, dice.pick((0, 3, 50, 1000, spread)))
@@ -41,14 +43,41 @@ def squares_summing_to(total):
     return sorted(found)
 
 
-def at_the_limit():
-    """Readings at squared distance exactly 900,000,000 (taken) and 900,000,001 = 30,000^2 + 1 (refused) from entry m."""
-    offsets = squares_summing_to(ref.FARTHEST) + squares_summing_to(ref.FARTHEST + 1)
-    for i in ref.ENTRIES:
+def about_entries(offsets):
+    """Each offset from each entry, where that is the nearest one."""
+    for i, (du, dv) in product(ref.ENTRIES, offsets):
         u, v = ref.entry_point(i)
-        for du, dv in offsets:
-            if ref.nearest_entry((u + du, v + dv)) == i:
-                yield u + du, v + dv
+        if ref.nearest_entry((u + du, v + dv)) == i:
+            yield u + du, v + dv
+
+
+def at_distances(*totals):
+    """Readings at exactly these squared distances from entry m."""
+    return list(about_entries([offset for total in totals for offset in squares_summing_to(total)]))
+
+
+def at_the_limit():
+    """Readings at squared distance exactly 2,500,000,000 (taken) and 2,500,000,001 = 50,000^2 + 1 (refused) from entry m, and at the
+    next ones that two whole numbers have, 6 under and 4 over."""
+    return at_distances(ref.FARTHEST, ref.FARTHEST + 1, ref.FARTHEST - 6, ref.FARTHEST + 4)
+
+
+def at_the_earlier_limit():
+    """Readings at the limit before No. 8 and one over."""
+    return at_distances(EARLIER_LIMIT, EARLIER_LIMIT + 1)
+
+
+def beside_the_limit(dice, count):
+    """Pairs of readings in any direction from entry m, one micro apart in u or in v: the last that is taken and the first that is not."""
+    found = []
+    while len(found) < 2 * count:
+        i, along, side, turn = dice.pick(ref.ENTRIES), dice.between(-LIMIT_RADIUS, LIMIT_RADIUS), dice.pick((-1, 1)), dice.pick((-1, 1))
+        (u, v), across = ref.entry_point(i), isqrt(ref.FARTHEST - along**2)
+        pair = [(u + du, v + dv) for du, dv in ((along, side * far)[::turn] for far in (across, across + 1))]
+        if all(ref.nearest_entry(reading) == i for reading in pair):
+            assert [ref.squared_distance(reading, (u, v)) <= ref.FARTHEST for reading in pair] == [True, False]
+            found += pair
+    return found
 
 
 def on_line(a, b, c, near):
@@ -93,7 +122,7 @@ def entry_ties(dice, count):
     while len(found) < count:
         i = dice.between(1, 23)
         p, q = ref.entry_point(i), ref.entry_point(i + 1)
-        near = p[0] + dice.between(-20_000, 20_000), p[1] + dice.between(-25_000, 25_000)
+        near = p[0] + dice.between(-33_000, 33_000), p[1] + dice.between(-41_000, 41_000)
         reading = equally_far(p, q, near)
         if reading and min(reading) >= 0:
             far = sorted(ref.squared_distance(reading, ref.entry_point(k)) for k in ref.ENTRIES)
@@ -157,7 +186,7 @@ def square_to_an_entry(dice):
     i = dice.between(2, 23)
     (u, v), before, after = ref.entry_point(i), ref.entry_point(i - 1), ref.entry_point(i + 1)
     du, dv = after[0] - before[0], after[1] - before[1]
-    out, along = dice.between(-29_000, 29_000), dice.between(-60, 60)
+    out, along = dice.between(-49_000, 49_000), dice.between(-60, 60)
     length = isqrt(du * du + dv * dv)
     return u + (along * du - out * dv) // length, v + (along * dv + out * du) // length
 
@@ -199,3 +228,8 @@ def as_xyz(u, v, brightness=100):
 
 
 AS_FLOATS = {"uv": as_uv, "uvp": as_uvp, "xy": as_xy, "xyz": as_xyz}
+
+
+def comes_to(kind, reading):
+    """Whether the floats of a kind come to exactly this reading; whole numbers do."""
+    return kind == "whole" or ref.converted(kind, AS_FLOATS[kind](*reading)) == reading

@@ -5,6 +5,7 @@ import ctypes
 from array import array
 
 import cradlekeel
+import record_files
 from cradlekeel._library import StoredRecord, c_function
 from record_lines import LETTERS, byte_pattern, pattern
 
@@ -83,8 +84,14 @@ def python_form(file):
 
 
 def python_record(file, index):
-    """The record; () where the bytes end before it does."""
+    """(refusal, record); () for a record that the file has not."""
     try:
-        return cradlekeel.record_at(file, index)
+        return answered(lambda: cradlekeel.record_at(file, index), ())
     except IndexError:
-        return ()
+        return 0, ()
+
+
+def expected_record(file, index):
+    """What the second program says of that."""
+    refusal, count = record_files.form(file)
+    return refusal, record_files.file_record(file, index) if index < count else ()

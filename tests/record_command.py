@@ -31,6 +31,11 @@ def show(*words, text=b"", **options):
     return run(["show", *words], text, **options)
 
 
+def earlier_file(records):
+    """A file from before, with records of 18 bytes."""
+    return record_files.file_by(record_files.EARLIER, records)
+
+
 def holds(path):
     """What a file holds; None where there is none."""
     return path.read_bytes() if path.exists() else None
@@ -54,6 +59,7 @@ INPUTS = {
     "carriage returns": b"219300 327100\r\n255910 349510 1\n", "numbers over their limit": b"4000001 1\n1 9999999\n219300 327100 9999999\n",
     "a long line among others": b"255910 349510 1\n" + 300_000 * b"7" + b"\n219300 327100 2\n" + 70_000 * b" " + b"\n255910 349510 2\n",
     "a long line at the end": b"219300 327100 2\n" + 200_000 * b"219300 327100 2",
+    "Duv to the limit": b"345070 327763 0\n345070 327762 0\n345070 310530 0\n345070 310529 0\n337230 410510 0\n",
 }
 
 
@@ -65,7 +71,7 @@ def check_kept(folder):
         check(f"{what}: the file", holds(path) == file_of(text), holds(path))
         lines = "".join(f"{shown(record)}\n" for record in kept_of(text)).encode()
         expect(f"{what}: what is shown", show(path), lines)
-    text = (ROOT / "crates/cradlekeel/stdin").read_bytes()[-60_000:]
+    text = (ROOT / "crates/cradlekeel/stdin").read_bytes()[-50_000:]
     expect("the text program's vectors", save(folder / "vectors.rec", text=text), ref.answer_text(text))
     check("their file", holds(folder / "vectors.rec") == file_of(text) and len(kept_of(text)) > 1000, len(kept_of(text)))
     expect("a name alone, from its folder", save("here.rec", cwd=folder), ANSWERS)
@@ -94,13 +100,13 @@ def check_none_accepted(folder):
 
 
 def check_most(folder):
-    """3,600 records are kept, whatever is refused beside them; of more, none."""
+    """3,200 records are kept, whatever is refused beside them; of more, none."""
     line, path = b"219300 327100 2\n", folder / "most.rec"
     four = line + b"0 0\n" + line + b"x\n"
-    expect("3600 accepted lines", save(path, text=1800 * four), 1800 * ref.answer_text(four))
-    check("their file", holds(path) == record_files.file_of(3600 * kept_of(line)), path)
+    expect("3200 accepted lines", save(path, text=1600 * four), 1600 * ref.answer_text(four))
+    check("their file", holds(path) == record_files.file_of(3200 * kept_of(line)), path)
     path.write_bytes(OLD)
-    for count in (3601, 100_000):
+    for count in (3201, 3600, 100_000):
         for words in ([folder / "new.rec"], ["--replace", path]):
             said = refused(words[-1], 11) + TOO_MANY_KEPT
             expect(f"{count} accepted lines", save(*words, text=count * line), count * ref.answer_text(line), said, 1)
@@ -116,18 +122,18 @@ def check_most_at_once(folder):
     answer, said = ref.answer_text(line), refused(path, 11) + TOO_MANY_KEPT
     pipes = dict.fromkeys(("stdin", "stdout", "stderr"), subprocess.PIPE)
     with subprocess.Popen([COMMAND, "save", path], **pipes) as process:
-        process.stdin.write(1801 * (line + b"0 0\n"))
+        process.stdin.write(1601 * (line + b"0 0\n"))
         process.stdin.flush()
-        first = process.stdout.read(len(1801 * (answer + b"5\n")))
-        process.stdin.write(1799 * line)
+        first = process.stdout.read(len(1601 * (answer + b"5\n")))
+        process.stdin.write(1599 * line)
         process.stdin.flush()
-        check("3600 answers", first + process.stdout.read(1799 * len(answer)) == 1801 * (answer + b"5\n") + 1799 * answer, first[:99])
+        check("3200 answers", first + process.stdout.read(1599 * len(answer)) == 1601 * (answer + b"5\n") + 1599 * answer, first[:99])
         os.set_blocking(process.stderr.fileno(), False)
-        check("nothing is said of 3600", not process.stderr.read(), said)
+        check("nothing is said of 3200", not process.stderr.read(), said)
         os.set_blocking(process.stderr.fileno(), True)
         process.stdin.write(line)
         process.stdin.flush()
-        check("3601 are told before the input ends", process.stderr.read(len(said)) == said, said)
+        check("3201 are told before the input ends", process.stderr.read(len(said)) == said, said)
         last = process.communicate(2 * line, PATIENCE)
         check("and only once", last == (3 * answer, b"") and process.returncode == 1 and not os.listdir(folder), (last, process.returncode))
 
@@ -136,8 +142,8 @@ JOIN = '"$0" show {} > lines.txt && cut -d" " -f1,2,7 lines.txt | "$0" save --re
 
 
 def check_joined(folder):
-    """Two files become one, and where one of them is bad what stood there stays."""
-    for name, file in (("a.rec", FILE), ("b.rec", file_of(b"255910 349510 3")), ("cut.rec", FILE[:40]), ("both.rec", OLD)):
+    """Two files become one, be one of them from before, and where one of them is bad what stood there stays."""
+    for name, file in (("a.rec", FILE), ("b.rec", earlier_file(kept_of(b"255910 349510 3"))), ("cut.rec", FILE[:40]), ("both.rec", OLD)):
         (folder / name).write_bytes(file)
     for names in ("a.rec cut.rec", "cut.rec a.rec", "a.rec none.rec"):
         check(f"{names}: told", shell(JOIN.format(names), cwd=folder).returncode == 1, names)
@@ -481,8 +487,12 @@ def check_missing(folder):
 
 # --- What is shown ----------------------------------------------------------------------------------------------------
 
-EXTREMES = [(0,) * 8, (2**32 - 1, 2**32 - 1, 65_535, 65_535, 65_535, 32_767, 255, 254), (1, 2, 3, 4, 5, -32_768, 6, 255),
+EXTREMES = [(0,) * 8, (2**32 - 1, 2**32 - 1, 65_535, 65_535, 65_535, 2**31 - 1, 255, 254), (1, 2, 3, 4, 5, -2**31, 6, 255),
             (219300, 327100, 23112, 21892, 23866, -2331, 2, 2), (5, 6, 1, 0, 65_535, -1, 0, 0), (7, 8, 64, 7, 8, 0, 1, 30)]
+
+
+# The same as a file from before can have them.
+EARLIER_EXTREMES = [(*numbers, min(max(duv, -32_768), 32_767), steps, cls) for *numbers, duv, steps, cls in EXTREMES]
 
 
 def kelvin(place):
@@ -497,24 +507,28 @@ def shown_lines(records, with_kelvin=False):
 def check_shown(folder):
     (folder / "all.rec").write_bytes(record_files.file_of(EXTREMES))
     (folder / "none.rec").write_bytes(record_files.file_of([]))
-    (folder / "places.rec").write_bytes(record_files.file_of([(1, 1, place, 1, 1, 1, 1, 1) for place in range(1, 65_536, 19)]))
+    (folder / "places.rec").write_bytes(earlier_file([(1, 1, place, 1, 1, 1, 1, 1) for place in range(1, 65_536, 19)]))
+    (folder / "earlier.rec").write_bytes(earlier_file(EARLIER_EXTREMES))
     expect("a file", show(folder / "all.rec"), shown_lines(EXTREMES))
     expect("a file with kelvin", show("--kelvin", folder / "all.rec"), shown_lines(EXTREMES, True))
     check("which is that of document 01", b" 4472.1\n" in show("--kelvin", folder / "all.rec").stdout, "another temperature")
+    expect("a file from before", show(folder / "earlier.rec"), shown_lines(EARLIER_EXTREMES))
     places = record_files.read(holds(folder / "places.rec"), 3600)[1]
+    check("which has more records than are written", len(places) > 3200, len(places))
     expect("the temperature at many places", show(folder / "places.rec", "--kelvin"), shown_lines(places, True))
     expect("no records", show("none.rec", "--kelvin", cwd=folder))
-    ran = show("all.rec", "none.rec", "places.rec", "all.rec", cwd=folder)
-    expect("several files, in their order", ran, shown_lines(EXTREMES + places + EXTREMES))
+    ran = show("all.rec", "none.rec", "places.rec", "earlier.rec", "all.rec", cwd=folder)
+    expect("several files, in their order", ran, shown_lines(EXTREMES + places + EARLIER_EXTREMES + EXTREMES))
     expect("standard input", show("-", text=record_files.file_of(EXTREMES)), shown_lines(EXTREMES))
-    ran = show("-", "all.rec", "-", text=record_files.file_of(places), cwd=folder)
+    ran = show("-", "all.rec", "-", text=earlier_file(places), cwd=folder)
     expect("standard input twice", ran, shown_lines(places + EXTREMES), refused("-", 13) + b"\n", 1)
 
 
 BAD_FILES = {  # by the refusal that each meets
     13: (b"", b"\x12\0\0\0\0\0\0"), 14: (b"219300 327100\n", record_files.file_of(EXTREMES)[:-1], record_files.file_of(EXTREMES) + b"\n", bytes(20)),
-    15: (record_files.file_of(EXTREMES)[18:], b"\0" + record_files.file_of([]), record_files.file_of(EXTREMES)[:18] + record_files.file_of([])),
-    11: (record_files.file_of(3601 * EXTREMES[:1]), record_files.file_of(65_535 * EXTREMES[:1])),
+    15: (record_files.file_of(EXTREMES)[20:], b"\0" + record_files.file_of([]), record_files.file_of(EXTREMES)[:20] + record_files.file_of([]),
+         bytes(18) + record_files.TRAILER.pack(20, 1, 18)),
+    11: (record_files.file_of(3201 * EXTREMES[:1]), record_files.file_of(65_535 * EXTREMES[:1]), earlier_file(3601 * EXTREMES[:1])),
 }
 
 
@@ -538,22 +552,22 @@ def check_long_files(folder):
     """What is longer than any trailer can tell is not read to its end, and the other files are shown."""
     (folder / "good.rec").write_bytes(record_files.file_of(EXTREMES))
     longest = record_files.file_of(65_535 * EXTREMES[:1])
-    check("the longest file of a trailer", len(longest) == 1_179_638, len(longest))
+    check("the longest file of a trailer", len(longest) == 1_310_708, len(longest))
     (folder / "longest.rec").write_bytes(longest)
     (folder / "over.rec").write_bytes(b"\0" + longest)
     with (folder / "huge.rec").open("wb") as huge:
         huge.truncate(1 << 40)
     said = refused("longest.rec", 11) + b"\n"
     for name in ("over.rec", "huge.rec", "/dev/zero"):
-        said += f"cradlekeel: {name}: over 1,179,638 bytes, longer than any record file\n".encode()
+        said += f"cradlekeel: {name}: over 1,310,708 bytes, longer than any record file\n".encode()
     ran = show("good.rec", "longest.rec", "over.rec", "huge.rec", "/dev/zero", "good.rec", cwd=folder)
     expect("files that are too long", ran, shown_lines(2 * EXTREMES), said, 1)
     ran = shell('"$0" show - </dev/zero', cwd=folder)
-    expect("standard input without end", ran, b"", b"cradlekeel: -: over 1,179,638 bytes, longer than any record file\n", 1)
+    expect("standard input without end", ran, b"", b"cradlekeel: -: over 1,310,708 bytes, longer than any record file\n", 1)
 
 
 def check_show_output(folder):
-    (folder / "day.rec").write_bytes(record_files.file_of(3600 * EXTREMES[:1]))
+    (folder / "day.rec").write_bytes(earlier_file(3600 * EXTREMES[:1]))
     no_write = b"cradlekeel: cannot write standard output: "
     for words in ("day.rec", "--help"):
         expect("a full disk", shell(f'"$0" show {words} >/dev/full', cwd=folder), said=no_write + b"No space left on device\n", status=1)

@@ -11,7 +11,7 @@ from sample_lists import numbers_of, run_texts
 
 # What the program of crates/vectors has room for: bytes of a line, numbers of a column, bytes of the file and of the first file
 # of a comparison, bytes that are written and records that are read.
-LONGEST_LINE, MOST_NUMBERS, MOST_BYTES, MOST_FIRST_BYTES, MOST_WRITTEN, MOST_READ = 8191, 69_136, 1_179_648, 65_536, 65_536, 4096
+LONGEST_LINE, MOST_NUMBERS, MOST_BYTES, MOST_FIRST_BYTES, MOST_WRITTEN, MOST_READ = 8191, 69_136, 1_310_720, 73_728, 65_536, 4096
 
 
 class Held(NamedTuple):
@@ -34,7 +34,7 @@ class Held(NamedTuple):
 
 
 LETTERS = Held._fields[:-2]
-BITS = dict(u=32, v=32, p=16, l=16, h=16, d=16, s=8, c=8)
+BITS = dict(u=32, v=32, p=16, l=16, h=16, d=32, s=8, c=8)
 SIGNED = "d"
 
 
@@ -154,5 +154,5 @@ def expected(line, held):
     if kind in ("column", "file"):
         return "%d" % len(getattr(held, fields[0] if kind == "column" else kind))
     given = {"write": lambda room: written(held.columns, room), "form": lambda: record_files.form(held.file),
-             "record": lambda index: record_files.record_at(held.file, index), "read": lambda *rooms: was_read(held.file, rooms)}
+             "record": lambda index: record_files.file_record(held.file, index), "read": lambda *rooms: was_read(held.file, rooms)}
     return " ".join(map(str, given[kind](*map(int, fields))))

@@ -3,13 +3,16 @@ examples/records.c, all against the second program. abi_test.py runs it."""
 
 import array
 import mmap
+import os
 import re
 import resource
 import signal
 import subprocess
+import sys
 import tempfile
 from collections import Counter
 from functools import lru_cache
+from itertools import product
 from pathlib import Path
 
 import cradlekeel
@@ -19,8 +22,10 @@ import reference as ref
 import vectors
 from cradlekeel import Record
 from kept import kept
-from record_calls import (GUARD, c_form, c_read, c_record, c_write, expect, python_form, python_read, python_record,
-                          python_write)
+from record_calls import (GUARD, answered, c_form, c_read, c_record, c_write, expect, expected_record, python_form, python_read,
+                          python_record, python_write)
+from record_cases import EARLIER, LENGTHS, MOST, WRITTEN
+from record_files import file_by, file_of
 from record_lines import LETTERS, byte_pattern, pattern
 from spectrum_test import fault_of
 
@@ -30,8 +35,8 @@ ROOT = Path(__file__).resolve().parent.parent
 # --- Without the library ----------------------------------------------------------------------------------------------
 
 GOOD = Record(219300, 327100, 23112, 21892, 23866, -2331, 2, 2)
-LIMITS = dict(u=(0, 2**32 - 1), v=(0, 2**32 - 1), place=(0, 65_535), low=(0, 65_535), high=(0, 65_535), duv=(-32_768, 32_767),
-              steps=(0, 255), class_index=(0, 255))
+LIMITS = dict(u=(0, 2**32 - 1), v=(0, 2**32 - 1), place=(0, 65_535), low=(0, 65_535), high=(0, 65_535),
+              duv=(-2**31, 2**31 - 1), steps=(0, 255), class_index=(0, 255))
 
 
 def check_records_that_do_not_fit():
@@ -54,9 +59,9 @@ def check_other_arguments():
         fault_of(TypeError, call)
     for room, kind in ((-1, ValueError), (2**64, ValueError), (0.5, TypeError)):
         assert str(fault_of(kind, lambda: cradlekeel.read_records(bytes(8), room))).startswith("room is ")
-    for index in (-1, 2, 2**64, -2**64):
-        fault_of(IndexError, lambda: cradlekeel.record_at(bytes(44), index))
-    fault_of(TypeError, lambda: cradlekeel.record_at(bytes(44), 0.5))
+    for index in (-1, -2**64):
+        fault_of(IndexError, lambda: cradlekeel.record_at(file_of([GOOD]), index))
+    fault_of(TypeError, lambda: cradlekeel.record_at(file_of([GOOD]), 0.5))
 
 
 def check_names_for_files():
@@ -71,6 +76,9 @@ def check_record_values():
     """A record is equal by value and cannot be changed."""
     assert GOOD == Record(*GOOD) and hash(GOOD) == hash(Record(*GOOD)) and GOOD != GOOD._replace(steps=3)
     assert Record._fields == tuple(LIMITS) and "class_index=2" in repr(GOOD)
+    records = cradlekeel.records
+    assert (records.RECORD_BYTES, records.EARLIER_RECORD_BYTES, records.TRAILER_BYTES) == (WRITTEN, EARLIER, 8)
+    assert (records.MOST_WRITTEN, records.MOST_RECORDS) == (MOST[WRITTEN], MOST[EARLIER])
     fault_of(AttributeError, lambda: setattr(GOOD, "u", 1))
     assert GOOD.kelvin == 103_360_000 / 23112 and GOOD._replace(place=0).kelvin is None
     for field, (_, largest) in LIMITS.items():
@@ -96,6 +104,7 @@ def check_let_go():
 
 ROW = re.compile(r"^\| (\d+) \| ((?:[0-9a-f]{2} ?)+) \| (record \d|trailer) \| ([a-z ]+) \| (-?\d+) \|", re.MULTILINE)
 DUMP = re.compile(r"^    (\d{7})((?: [0-9a-f]{2})*)$", re.MULTILINE)
+FROM_BEFORE = re.compile(r'"earlier\.rec"\)\.write_bytes\(bytes\.fromhex\("""([^"]*)"""\)\)')
 NAMES = tuple(LIMITS)[:-1] + ("class",)  # the page has the names that people read
 
 
@@ -118,12 +127,20 @@ def check_page():
     """The second program reads the page's bytes to the page's records, which are its own answers to the page's lines."""
     file, records, trailer = page_file()
     assert len(records) == 2 and record_files.read(file, 2) == (0, records) and record_files.trailer_of(file) == trailer
-    assert records == [record for u, v, *_, steps, _ in records for record in kept(u, v, steps)]
+    assert records == [record for u, v, *_, steps, _ in records for record in kept(u, v, steps)] and file_of(records) == file
+    assert earlier_page_file() == file_by(EARLIER, records), "the page's file from before has other records"
+
+
+def earlier_page_file():
+    """The bytes of the page's file from before."""
+    (text,) = FROM_BEFORE.findall((ROOT / "docs/FILES.md").read_text(encoding="utf-8").replace("target/", ""))
+    return bytes.fromhex(text)
 
 
 def check_page_by_library():
     file, records, _ = page_file()
     assert cradlekeel.read_records(file) == records and cradlekeel.to_bytes(Record(*record) for record in records) == file
+    assert cradlekeel.read_records(earlier_page_file()) == records
 
 
 def self_test():
@@ -162,9 +179,9 @@ def check_form(held):
 
 
 def check_record(held, index):
-    record = record_files.record_at(held.file, index)
+    record = record_files.file_record(held.file, index)
     expect("ck_record_at", c_record(held.file, index), record)
-    expect("record_at", python_record(held.file, index), record if index < len(held.file) // 18 else ())
+    expect("record_at", python_record(held.file, index), expected_record(held.file, index))
     return record
 
 
@@ -210,26 +227,78 @@ FORMS = (bytes, bytearray, memoryview, mapped, lambda file: memoryview(bytearray
 
 def check_bytes_like():
     """A file may be any bytes-like object, is not changed by being read, and can be changed afterwards."""
-    records = record_cases.random_records(5, record_cases.Dice("bytes-like"))
-    for form, count in ((form, count) for form in FORMS for count in (1, 5)):
-        file = record_files.file_of(records[:count])
+    records = record_cases.random_records(5, record_cases.Dice("bytes-like"), EARLIER)
+    for form, length, count in product(FORMS, LENGTHS, (1, 5)):
+        file = file_by(length, records[:count])
         given = form(file)
         assert cradlekeel.read_records(given) == records[:count] and cradlekeel.check_file(given) == count
         assert cradlekeel.record_at(given, count - 1) == records[count - 1] and bytes(given) == file
         assert python_read(given, count - 1) == (record_files.NO_ROOM, [])
-    held = bytearray(record_files.file_of(records))
-    cradlekeel.check_file(held), cradlekeel.read_records(held)
+    held = bytearray(file_of(records))
+    cradlekeel.check_file(held), cradlekeel.read_records(held), cradlekeel.record_at(held, 4)
     held.append(0)
     assert cradlekeel.write_records([], held) == 8
     del held[8:]
-    assert held == record_files.file_of([])
+    assert held == file_of([])
 
 
 def check_rooms():
-    """As much room as anyone asks for, and no more records than a file has."""
-    for room in (3600, 3601, 2**40, 2**64 - 1):
-        assert cradlekeel.read_records(record_files.file_of([GOOD]), room) == [GOOD]
-    assert python_read(record_files.file_of(3601 * [GOOD]), 2**40) == (record_files.TOO_MANY_RECORDS, [])
+    """As much room as anyone asks for, and no more records than a file of its length has."""
+    for length, most in MOST.items():
+        for room in (3600, 3601, 2**40, 2**64 - 1):
+            assert cradlekeel.read_records(file_by(length, [GOOD]), room) == [GOOD]
+        assert cradlekeel.read_records(file_by(length, most * [GOOD])) == most * [GOOD]
+        assert python_read(file_by(length, most * [GOOD]), most - 1) == (record_files.NO_ROOM, [])
+        assert python_read(file_by(length, (most + 1) * [GOOD]), 2**40) == (record_files.TOO_MANY_RECORDS, [])
+
+
+def check_indexes():
+    """A record that a file has not is no record, whatever the number; a file that cannot be read is refused first."""
+    for length in LENGTHS:
+        file = file_by(length, [GOOD, GOOD])
+        assert cradlekeel.record_at(file, 1) == GOOD
+        for index in (-1, 2, 3, 2**63, 2**64 - 1, 2**64, 2**80, -2**64):
+            assert "the file has no record" in str(fault_of(IndexError, lambda: cradlekeel.record_at(file, index)))
+        assert python_record(file[1:], 0) == python_record(file[1:], 2**70) == (record_files.BAD_TRAILER, ())
+
+
+def check_earlier_files():
+    """A file from before is read to its records; written again they are of the length that is written now, unless they are too many."""
+    records = [*map(Record._make, record_cases.random_records(MOST[WRITTEN] + 1, record_cases.Dice("files from before"), EARLIER))]
+    for count in (0, 1, 5, MOST[WRITTEN], MOST[WRITTEN] + 1):
+        read = cradlekeel.read_records(file_by(EARLIER, records[:count]))
+        assert read == records[:count]
+        target = bytearray(WRITTEN * count + 8)
+        if count > MOST[WRITTEN]:
+            assert python_write(read, target) == (record_files.TOO_MANY_RECORDS, 0) and not any(target)
+            assert answered(lambda: cradlekeel.to_bytes(read), b"") == (record_files.TOO_MANY_RECORDS, b"")
+        else:
+            assert cradlekeel.to_bytes(read) == file_of(records[:count]) and cradlekeel.read_records(cradlekeel.to_bytes(read)) == read
+
+
+OLDER_LIBRARY = """
+#include <stddef.h>
+struct done { size_t count; unsigned char refusal; };
+struct done ck_write_records(const void *u, size_t us, const void *v, size_t vs, const void *p, size_t ps, const void *l, size_t ls,
+                             const void *h, size_t hs, const void *d, size_t ds, const void *s, size_t ss, const void *c, size_t cs,
+                             unsigned char *file, size_t room) {
+    struct done done = {8, 0};
+    for (size_t i = 0; i < room && i < 8; i++) file[i] = i == 0 ? 18 : 0;
+    return done;
+}
+"""
+ASKED = "import cradlekeel; cradlekeel.to_bytes([])"
+
+
+def check_older_library():
+    """A library that writes records of 18 bytes, as it did before, is told of, and no record goes to it."""
+    with tempfile.TemporaryDirectory() as folder:
+        source, library = Path(folder) / "older.c", Path(folder) / "older.so"
+        source.write_text(OLDER_LIBRARY)
+        subprocess.run(["gcc", "-shared", "-fPIC", source, "-o", library], check=True)
+        variables = {**os.environ, "PYTHONPATH": str(ROOT / "python"), "CRADLEKEEL_LIBRARY": str(library)}
+        ran = subprocess.run([sys.executable, "-B", "-c", ASKED], env=variables, capture_output=True, text=True)
+        assert ran.returncode == 1 and f"{library} writes records of 18 bytes: it is older than this package" in ran.stderr, ran
 
 
 def check_records_of_answers():
@@ -242,8 +311,12 @@ def check_records_of_answers():
             assert Record.of(u, v, cradlekeel.read_micro(u, v, steps=steps)) == record, line
     assert {0, 1, 2, 3, 255} <= classes, classes
     answer = cradlekeel.read_micro(219300, 327100)
-    for field, bad in (("place", 65_536), ("low", 2**32), ("high", -1), ("duv", 0.032768), ("duv", -0.032769), ("steps", 256), ("class_index", -1)):
-        fault_of(ValueError, lambda: Record.of(219300, 327100, cradlekeel.readings.Answer(**{**vars(answer), field: bad})))
+    other = lambda field, number: cradlekeel.readings.Answer(**{**vars(answer), field: number})
+    for field, bad in (("place", 65_536), ("low", 2**32), ("high", -1), ("duv", 2147.483648), ("duv", -2147.483649), ("steps", 256),
+                       ("class_index", -1)):
+        fault_of(ValueError, lambda: Record.of(219300, 327100, other(field, bad)))
+    for duv in (0, 30_001, 32_767, 32_768, 50_000, 2**31 - 1, -1, -32_768, -32_769, -50_000, -2**31):
+        assert Record.of(1, 2, other("duv", duv / ref.MICRO)) == (1, 2, answer.place, answer.low, answer.high, duv, answer.steps, answer.class_index)
     for u, v in ((-1, 0), (0, 2**32)):
         fault_of(ValueError, lambda: Record.of(u, v, answer))
 
@@ -282,7 +355,7 @@ def check_example():
         assert ran.returncode == 1 and "File too large" in ran.stderr and not path.exists(), ran
         told = "183000 276000 is refused with 6 and not kept\n"
         ran = run_example("save", path)
-        assert (ran.stdout, ran.stderr, ran.returncode) == (told, "", 0) and path.read_bytes() == record_files.file_of(lamp_records()), ran
+        assert (ran.stdout, ran.stderr, ran.returncode) == (told, "", 0) and path.read_bytes() == file_of(lamp_records()), ran
         ran = run_example("show", path)
         assert (ran.stdout, ran.stderr, ran.returncode) == ("".join(map(shown_record, lamp_records())), "", 0), ran
         with open("/dev/full", "wb") as full:
@@ -298,14 +371,16 @@ def check_example():
 
 
 def check_example_on_files(path):
-    """Any record is shown, and what is no file is refused by its number."""
-    most = record_files.file_of(3600 * [(1, 2, 0, 0, 0, -32_768, 255, 255)])
-    path.write_bytes(most)
-    assert run_example("show", path).stdout == 3600 * shown_record(record_files.record_at(most, 0))
-    for file in (b"", b"no record file", most[18:], b"." + most, most + most, record_files.file_of(3601 * [GOOD])):
+    """Any record of either length is shown, and what is no file is refused by its number."""
+    longest = file_by(EARLIER, 3600 * [(1, 2, 0, 0, 0, -32_768, 255, 255)])
+    for file, count in ((longest, 3600), (file_of(3200 * [(1, 2, 0, 0, 0, -2**31, 255, 255)]), 3200), (file_of([(1, 2, 3, 4, 5, 2**31 - 1, 0, 0)]), 1)):
+        path.write_bytes(file)
+        assert run_example("show", path).stdout == count * shown_record(record_files.file_record(file, 0))
+    for file in (b"", b"no record file", longest[18:], b"." + longest, longest + longest, file_of(3201 * [GOOD]), file_of(3600 * [GOOD]),
+                 file_by(EARLIER, 3601 * [GOOD])):
         path.write_bytes(file)
         ran = run_example("show", path)
-        number = record_files.form(file[:len(most) + 1])[0]  # it reads one byte more than a file can have
+        number = record_files.form(file[:len(longest) + 1])[0]  # it reads one byte more than a file can have
         assert ran.returncode == 1 and f": refusal {number}: " in ran.stderr and not ran.stdout, (number, ran)
     ran = run_example("show", path.parent / "missing.rec")
     assert ran.returncode == 1 and "No such file" in ran.stderr, ran
@@ -318,6 +393,9 @@ def run():
     check_bytes_like()
     check_let_go()
     check_rooms()
+    check_indexes()
+    check_earlier_files()
+    check_older_library()
     check_records_of_answers()
     check_example()
     return count

@@ -1,4 +1,4 @@
-"""The rules of document 01, and of requests No. 1 to 3 and 5 of document 02, in exact whole numbers and fractions: the
+"""The rules of document 01, and of requests No. 1 to 3, 5 and 8 of document 02, in exact whole numbers and fractions: the
 independent second program.
 
 It follows the documents' own words, letters and sections and shares no code with the crates. Where a rule can be said in
@@ -369,7 +369,7 @@ def class_of(edges, found):
 
 # --- Numbers given instead of an answer -------------------------------------------------------------------------------
 
-FARTHEST = 900_000_000
+FARTHEST = 2_500_000_000  # 0.05 (document 02, No. 8)
 
 
 def minus(p, q):
@@ -380,10 +380,14 @@ def dot(p, q):
     return p[0] * q[0] + p[1] * q[1]
 
 
+def is_too_far(reading, entry):
+    return squared_distance(reading, entry) > FARTHEST
+
+
 def admit(reading):
     """Refusals 5, 6 and 7; otherwise the nearest entry."""
     m, entry = nearest_entry(reading), entry_point
-    if squared_distance(reading, entry(m)) > FARTHEST:
+    if is_too_far(reading, entry(m)):
         raise Refused(TOO_FAR)
     if m == 1 and dot(minus(reading, entry(1)), minus(entry(2), entry(1))) < 0:
         raise Refused(TOO_HOT)

@@ -15,7 +15,7 @@ from answer_cases import (ALLOWANCES, BEHIND_FIRST, BEHIND_LAST, FAR_BEHIND_FIRS
 from convert_cases import converted_line
 from core_cases import edge_lists, edges_around, rising_edges, spoilt
 from dice import Dice
-from readings import admitted, at_the_limit, behind_an_end, is_admitted
+from readings import admitted, at_the_limit, behind_an_end, beside_the_limit, is_admitted
 from sample_lists import Lists, changes, flat, has_sums, shifted, sums_to, with_number, with_sums
 
 KINDS = ("list", "samples", "answer samples")
@@ -353,7 +353,7 @@ def edge_list_cases(dice):
 
 def end_and_limit_cases(dice):
     """Readings at the last distance that is taken and the first that is not, and on both sides of both ends of the locus."""
-    readings = filter(has_sums, [*at_the_limit(), *behind_an_end(1, 2, 40), *behind_an_end(24, 23, 40)])
+    readings = filter(has_sums, [*at_the_limit(), *beside_the_limit(dice, 40), *behind_an_end(1, 2, 40), *behind_an_end(24, 23, 40)])
     for reading in list(readings)[::4]:
         yield summing_to(exact_sums(reading, dice), dice)
 

@@ -5,8 +5,8 @@ from itertools import product
 import document_cases
 import reference as ref
 from dice import Dice
-from readings import (about_piece, admitted, at_the_limit, behind_an_end, best_outside, comparisons, entry_ties, is_admitted,
-                      level_ties, looks, near_locus, search_ties)
+from readings import (about_piece, admitted, at_distances, at_the_earlier_limit, at_the_limit, behind_an_end, beside_the_limit,
+                      best_outside, comparisons, entry_ties, is_admitted, level_ties, looks, near_locus, search_ties)
 
 GOOD = b"219300 327100 2"
 
@@ -76,10 +76,11 @@ def lengths(dice):
 
 
 def duv_values(dice):
-    """Duv printed as 0, 1, -1, 30000 and -30000: every one of them must be met."""
-    wanted = {0: 0, 1: 0, -1: 0, 30_000: 0, -30_000: 0}
+    """Duv printed as 0, 1 and -1, at the ends of 16 bits, and at the limit and the one before it: every one of them must be met."""
+    wanted = {sign * size: 0 for size in (0, 1, 30_000, 32_767, 32_768, 32_769, 50_000) for sign in (-1, 1)}
     around = [(ref.entry_point(i)[0] + du, ref.entry_point(i)[1] + dv) for i in ref.ENTRIES for du in (-1, 0, 1) for dv in (-1, 0, 1)]
-    for reading in around + [reading for reading in at_the_limit() if is_admitted(reading)]:
+    far = at_the_limit() + at_the_earlier_limit() + at_distances(*(size**2 for size in (32_767, 32_768, 32_769)))
+    for reading in around + list(filter(is_admitted, far)):
         for steps in (0, 5, 14):
             duv = ref.answer("whole", reading, ref.TEXT_EDGES, steps).duv
             if wanted.get(duv, 20) < 20:
@@ -90,7 +91,7 @@ def duv_values(dice):
 
 def hard_readings(dice):
     """Ties, limits, both ends, each piece and a nearest point outside the bracket, as lines of two and of three numbers."""
-    readings = list(at_the_limit()) + entry_ties(dice, 120) + search_ties(dice, comparisons, 120) + search_ties(dice, looks, 80)
+    readings = at_the_limit() + beside_the_limit(dice, 40) + entry_ties(dice, 120) + search_ties(dice, comparisons, 120) + search_ties(dice, looks, 80)
     readings += best_outside(dice, 60) + list(behind_an_end(1, 2, 15)) + list(behind_an_end(24, 23, 15))
     readings += [about_piece(dice, i) for i in ref.ENTRIES[:-1]] + level_ties(dice, 20)
     for reading in readings:
@@ -102,7 +103,7 @@ def plain_readings(dice, count=1200):
     """Lines of everyday use: admitted readings with an allowance, and any reading about the locus with none."""
     for _ in range(count):
         yield as_line(*admitted(dice), dice.below(16))
-        yield as_line(*near_locus(dice, 30_000))
+        yield as_line(*near_locus(dice, 50_000))
 
 
 SECTIONS = (listing_lines, digit_counts, leading_zeros, range_ends, spacing, other_bytes, lengths, duv_values,

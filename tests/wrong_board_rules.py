@@ -1,10 +1,11 @@
-"""Wrong rules of boards for check_wrong_rules.py and fuzz_boards: near misses that document 02's No. 6 leaves room for.
+"""Wrong rules of boards for check_wrong_rules.py and fuzz_boards: near misses that document 02's No. 6 and 8 leave room for.
 
 They are put into board_table.py. The first word of each rule is the name there that it stands in for."""
 
 import board_table as table
 from board_table import LAST_STAMP, NO_SUCH_PLACE, STALE_STAMP, TOO_MANY_LOTS, Lot, Told
-from wrong_record_rules import as_long_as, as_long_as_the_longest, none_where_lengths_differ
+from wrong_record_rules import (DUV, as_long_as, as_long_as_the_longest, held_within, in_16_bits, in_16_bits_without_a_sign,
+                                none_where_lengths_differ, with_duv, words)
 
 MOST_LOTS = 64
 LARGEST_STAMP = 65_535
@@ -77,6 +78,16 @@ def by_the_place_of_the_record(records, placed=table.placed):
 
 def first_job_the_place(records, placed=table.placed):
     return {place: lot._replace(job=place) for place, lot in placed(records).items()}
+
+
+def loaded_with(change):
+    """Lots whose record is changed at loading."""
+    return lambda record, at_loading=table.at_loading: at_loading(change(*record))
+
+
+def duv_beyond_16_bits_refused(records, load=table.load):
+    fit = all(in_16_bits(record[DUV]) == record[DUV] for record in records)
+    return load(records) if fit else ({}, Told(TOO_MANY_LOTS))
 
 
 def first_stamp_the_place(records, placed=table.placed):
@@ -401,6 +412,11 @@ def largest_job_is_none(lot, job, stored=table.stored):
     return stored(lot, (job + 1) % 2**32 and job)
 
 
+def duv_cut_to_16_bits(lot, job, stored=table.stored):
+    after = stored(lot, job)
+    return after._replace(record=with_duv(in_16_bits)(*lot.record))
+
+
 def record_lost(lot, job, stored=table.stored):
     return stored(lot, job)._replace(record=NO_RECORD)
 
@@ -443,7 +459,9 @@ WRONG_BOARD_RULES = (
         refused_load_keeps_the_first_64, refused_load_keeps_all_lots, refused_load_gives_one_lot_of_zeros, first_64_loaded,
         last_64_loaded, too_many_gives_11)),
     *(("load", count_wraps_at(bits), "the count of a load kept to %d bits" % bits) for bits in (6, 8, 16)),
-    ("load", no_records_refused),
+    *(("load", wrong) for wrong in (no_records_refused, duv_beyond_16_bits_refused)),
+    *(("at_loading", loaded_with(change), "loaded with " + words(change)) for change in map(with_duv, (
+        in_16_bits, in_16_bits_without_a_sign, held_within(32_767), held_within(50_000)))),
     *(("placed", wrong) for wrong in (
         last_record_first, places_from_1, one_more_place, same_record_once, in_the_order_of_u, record_of_zeros_left_out,
         by_the_place_of_the_record, first_job_the_place, first_stamp_the_place)),
@@ -483,7 +501,7 @@ WRONG_BOARD_RULES = (
     *(("assign", wrong) for wrong in (no_board_where_refused, job_0_refused)),
     *(("stored", wrong) for wrong in (
         job_0_not_stored, job_0_keeps_the_stamp, job_0_gives_the_first_stamp, same_job_keeps_the_stamp, first_job_stays, larger_job_stays,
-        largest_job_is_none, record_lost, job_not_stored)),
+        largest_job_is_none, record_lost, duv_cut_to_16_bits, job_not_stored)),
     *(("stored", job_kept_to(bits), "the job kept to %d bits" % bits) for bits in (16, 31)),
     *(("assign", others_changed(change), "stored, and " + change.__name__.replace("_", " ")) for change in (
         every_stamp_raised, every_lot_of_that_record_assigned, next_place_assigned, job_taken_from_the_lot_that_had_it)),

@@ -1,4 +1,4 @@
-"""Wrong rules of comparisons for check_wrong_rules.py and fuzz_compares: near misses that document 02's No. 7 leaves room for.
+"""Wrong rules of comparisons for check_wrong_rules.py and fuzz_compares: near misses that document 02's No. 7 and 8 leave room for.
 
 They are put into file_differences.py. The first word of each rule is the name there that it stands in for."""
 
@@ -6,10 +6,11 @@ from itertools import combinations
 
 import file_differences as differences
 from file_differences import ONLY_IN_FIRST, ONLY_IN_SECOND
-from record_files import BAD_RECORD_LENGTH, BAD_TRAILER, NO_ROOM, NO_TRAILER, TOO_MANY_RECORDS
-from wrong_record_rules import (CLASS, DUV, FIELDS, LENGTH, WRONG_RECORD_RULES, Changed, Layout, beyond_refused_too,
-                                brought_to_what_is_answered, class_255_as_0, count_of_the_refused_file_given, duv_without_its_sign,
-                                one_more_made_zero, put_at_the_end, rest_cut_off, rest_made_zero, swapped, words)
+from record_files import BAD_RECORD_LENGTH, BAD_TRAILER, NO_ROOM, NO_TRAILER, TOO_MANY_RECORDS, record_at, trailer_of
+from wrong_record_rules import (CLASS, DUV, FIELDS, LENGTHS, READ_CHANGES, WRITTEN, WRONG_RECORD_RULES, Changed, beyond_refused_too,
+                                brought_to_what_is_answered, by_one_length, class_255_as_0, count_of_the_refused_file_given,
+                                one_more_made_zero, put_at_the_end, records_of, rest_cut_off, rest_made_zero, swapped, with_duv,
+                                without_its_sign, words)
 
 NUMBERS = 4
 LOW, HIGH = 3, 4
@@ -71,20 +72,26 @@ def refusals_swapped(one, other):
 # --- What a file holds ------------------------------------------------------------------------------------------------
 
 
-def record_by(layout):
-    """The record at an index by another layout of its bytes."""
-    def record_at(file, index):
-        return layout.unpack(file[LENGTH * index:LENGTH * (index + 1)])
-    return record_at
+def read_at(record_at):
+    """The records of a file, each by the file, its record length and the record's number."""
+    def read(file, room, right=differences.read):
+        refusal, records = right(file, room)
+        return refusal, [record_at(file, trailer_of(file)[0], index) for index in range(len(records))]
+    return read
 
 
-def bytes_for_fields(file, index):
-    return tuple(file[LENGTH * index:LENGTH * (index + 1)])
+def read_as(layouts):
+    """The records of a file by other layouts, one for each record length."""
+    return read_at(lambda file, length, index: layouts[length].unpack(file[length * index:length * (index + 1)]))
+
+
+def bytes_for_fields(file, length, index):
+    return tuple(file[length * index:length * (index + 1)])
 
 
 def fields_in_turn(*order):
     """A record with its contents in another order."""
-    return lambda file, index, record_at=differences.record_at: tuple(record_at(file, index)[at] for at in order)
+    return lambda file, length, index: tuple(record_at(file, length, index)[at] for at in order)
 
 
 def class_255_as_minus_1(*numbers):
@@ -203,6 +210,11 @@ def field_not_compared(field):
     return lambda place, first, second, places: place[1] != field
 
 
+def duv_compared_by(bits):
+    """Duv of which only the lowest bits are compared."""
+    return lambda place, first, second, places: place[1] != DUV or (first - second) % 2**bits != 0
+
+
 def every_content_of_both(first, second):
     return set(first.keys() & second.keys())
 
@@ -312,7 +324,11 @@ def record_from_1_listed(record, field, first, second):
 
 
 def duv_listed_by_its_bits(record, field, first, second):
-    return record, field, *(content % 2**16 if field == DUV else content for content in (first, second))
+    return record, field, *(content % 2**32 if field == DUV else content for content in (first, second))
+
+
+def duv_listed_by_16_bits(record, field, first, second):
+    return record, field, *((content + 2**15) % 2**16 - 2**15 if field == DUV else content for content in (first, second))
 
 
 def class_255_listed_as_minus_1(record, field, first, second):
@@ -503,6 +519,31 @@ def equal_files_never_refused(first, second, room, compare=differences.compare):
     return (0, 0, []) if first == second else compare(first, second, room)
 
 
+def record_lengths_differ(*files):
+    """Whether two files that can be read have records of different lengths."""
+    return not differences.unreadable(*files)[1] and len({trailer_of(file)[0] for file in files}) > 1
+
+
+def record_lengths_that_differ_refused(first, second, room, compare=differences.compare):
+    return (2, BAD_RECORD_LENGTH, []) if record_lengths_differ(first, second) else compare(first, second, room)
+
+
+def by_bytes_where_record_lengths_differ(first, second, room, compare=differences.compare):
+    if not record_lengths_differ(first, second):
+        return compare(first, second, room)
+    held, other = map(differences.contents, (first, second))
+    both = [differences.entry(place, held, other) for place in sorted(held.keys() & other.keys())]
+    listed = both + [entry for entry in all_of(first, second) if entry[1] > 7]
+    return (0, 0, listed) if differences.has_room(listed, room) else (0, NO_ROOM, [])
+
+
+def duv_left_out_where_record_lengths_differ(first, second, room, compare=differences.compare):
+    if not record_lengths_differ(first, second):
+        return compare(first, second, room)
+    listed = [entry for entry in all_of(first, second) if entry[1] != DUV]
+    return (0, 0, listed) if differences.has_room(listed, room) else (0, NO_ROOM, [])
+
+
 def lengths_that_differ_refused(first, second, room, compare=differences.compare):
     which, refusal, listed = compare(first, second, room)
     return (which, refusal, listed) if refusal or len(first) == len(second) else (0, BAD_TRAILER, [])
@@ -577,6 +618,20 @@ def second_listed_beside_an_unreadable_first(target, first, second, compare_into
 
 FILE_REFUSALS = (NO_TRAILER, BAD_RECORD_LENGTH, BAD_TRAILER, TOO_MANY_RECORDS)
 
+
+def layout_rules(length):
+    """Wrong layouts of the records of one length."""
+    of, titled = (lambda **options: read_as(records_of(length, **options))), lambda title: "%s, in %d bytes" % (title, length)
+    return (
+        *(("read", of(big={at}), titled("big-endian " + FIELDS[at])) for at in range(6)),
+        *(("read", of(order=swapped(at, at + 1)), titled("%s before %s" % (FIELDS[at + 1], FIELDS[at]))) for at in range(7)),
+        ("read", of(signed=()), titled("Duv unsigned")),
+        *(("read", of(signed=(at, DUV)), titled(FIELDS[at] + " signed")) for at in range(8) if at != DUV),
+        *(("read", of(layout=Changed, out_of=change), titled(words(change))) for change in (
+            class_255_as_0, class_255_as_minus_1, with_duv(without_its_sign), brought_to_what_is_answered)),
+    )
+
+
 # Those of record files about which files can be read; the count that goes with a refusal is of no use here.
 WRONG_FORM_RULES = tuple(rule for rule in WRONG_RECORD_RULES if rule[0] == "form" and rule[1] is not count_of_the_refused_file_given)
 
@@ -585,14 +640,11 @@ WRONG_COMPARE_RULES = (
         second_named_where_both_are_bad, lower_refusal_named, both_named, refusal_of_the_other_file, named_the_other_way_round,
         named_from_0, no_file_named, unreadable_second_taken_as_empty, unreadable_first_taken_as_empty)),
     *(("form", refusals_swapped(*pair), "%d and %d mixed up" % pair) for pair in combinations(FILE_REFUSALS, 2)),
-    *(("record_at", record_by(Layout(big={at})), "big-endian " + FIELDS[at]) for at in range(6)),
-    *(("record_at", record_by(Layout(order=swapped(at, at + 1))), "%s before %s" % (FIELDS[at + 1], FIELDS[at])) for at in range(7)),
-    *(("record_at", fields_in_turn(*swapped(at, at + 1)), "fields %d and %d swapped" % (at, at + 1)) for at in range(7)),
-    ("record_at", record_by(Layout(signed=())), "Duv unsigned"),
-    *(("record_at", record_by(Layout(signed=(at, DUV))), FIELDS[at] + " signed") for at in range(8) if at != DUV),
-    *(("record_at", record_by(Changed(out_of=change)), words(change)) for change in (
-        class_255_as_0, class_255_as_minus_1, duv_without_its_sign, brought_to_what_is_answered)),
-    ("record_at", bytes_for_fields),
+    *(rule for length in LENGTHS for rule in layout_rules(length)),
+    *(("read", read_as(records_of(WRITTEN, Changed, out_of=change)), words(change)) for change in READ_CHANGES),
+    *(("read", read_at(fields_in_turn(*swapped(at, at + 1))), "fields %d and %d swapped" % (at, at + 1)) for at in range(7)),
+    *(("read", read_at(by_one_length(length)), "records by %d bytes in every file" % length) for length in LENGTHS),
+    ("read", read_at(bytes_for_fields), words(bytes_for_fields)),
     *(("contents", held_otherwise(change), words(change)) for change in (
         records_from_1, fields_from_1, fields_from_the_last, records_from_the_end, records_and_fields_in_one_number,
         bracket_from_its_least)),
@@ -604,14 +656,15 @@ WRONG_COMPARE_RULES = (
     *(("changed", only_where(differ_by(bits)), "only %d bits compared" % bits) for bits in (7, 8, 15, 16, 31)),
     *(("changed", only_where(differ_above(bits)), "the lowest %d bits not compared" % bits) for bits in (1, 8, 16)),
     *(("changed", only_where(field_not_compared(at)), name + " not compared") for at, name in enumerate(FIELDS)),
+    *(("changed", only_where(duv_compared_by(bits)), "only %d bits of Duv compared" % bits) for bits in (8, 15, 16, 24)),
     *(("changed", wrong) for wrong in (every_content_of_both, every_field_of_a_record_that_differs, same_record_elsewhere_left_out)),
     ("extra", shorter_file_taken_as_equal),
     *(("extra", extra_numbered(change), "extra records: " + words(change)) for change in (
         from_0, from_1, first_alone, last_alone, last_left_out, first_left_out, one_more, last_of_both_too, only_beside_some_records)),
     *(("entry", entry_with(change), words(change)) for change in (
         contents_swapped, how_far_apart_for_the_second, first_content_twice, second_content_twice, contents_rising, field_before_record,
-        contents_before_the_field, field_from_1_listed, record_from_1_listed, duv_listed_by_its_bits, class_255_listed_as_minus_1,
-        class_from_1_listed, contents_of_32_signed_bits, contents_without_their_sign)),
+        contents_before_the_field, field_from_1_listed, record_from_1_listed, duv_listed_by_its_bits, duv_listed_by_16_bits,
+        class_255_listed_as_minus_1, class_from_1_listed, contents_of_32_signed_bits, contents_without_their_sign)),
     ("entry", entry_with(record_kept_to(8)), "record numbers kept to 8 bits"),
     *(("extra_entry", wrong) for wrong in (
         fields_8_and_9_swapped, extra_record_for_its_contents, presence_for_the_contents, extra_field_before_record)),
@@ -632,7 +685,9 @@ WRONG_COMPARE_RULES = (
     *(("compare", room_before_the_files(least), "12 before the files in a room under %d" % least) for least in (1, 4)),
     *(("compare", where_no_room(change), words(change)) for change in (
         what_has_room_is_listed, no_room_names_the_first_file, no_room_names_the_second_file, no_room_gives_11)),
-    *(("compare", wrong) for wrong in (equal_files_never_refused, lengths_that_differ_refused)),
+    *(("compare", wrong) for wrong in (
+        equal_files_never_refused, lengths_that_differ_refused, record_lengths_that_differ_refused, by_bytes_where_record_lengths_differ,
+        duv_left_out_where_record_lengths_differ)),
     *(("compare_into", after_with(change), words(change)) for change in (
         counted_in_numbers, differing_fields_alone_counted, records_counted, all_records_then_all_fields, end_marked)),
     *(("compare_into", after_with(count_kept_to(bits)), "the count kept to %d bits" % bits) for bits in (8, 14)),

@@ -1,4 +1,4 @@
-"""Wrong rules of record files for check_wrong_rules.py: near misses that document 02's No. 4 leaves room for.
+"""Wrong rules of record files for check_wrong_rules.py: near misses that document 02's No. 4 and 8 leave room for.
 
 They are put into record_files.py. The first word of each rule is the name there that it stands in for."""
 
@@ -10,9 +10,10 @@ import record_files as files
 from record_files import BAD_RECORD_LENGTH, BAD_TRAILER, NO_ROOM, NO_TRAILER, TOO_MANY_RECORDS
 
 FIELDS = ("u", "v", "place", "o", "p", "Duv", "steps", "class")
-RECORD_SIZES, TRAILER_SIZES = (4, 4, 2, 2, 2, 2, 1, 1), (2, 2, 4)
+EARLIER, WRITTEN = LENGTHS = 18, 20
+RECORD_SIZES, TRAILER_SIZES = {length: (4, 4, 2, 2, 2, length - 16, 1, 1) for length in LENGTHS}, (2, 2, 4)
 DUV, CLASS = 5, 7
-LENGTH, TRAILER, MOST = 18, 8, 3600
+TRAILER, MOST = 8, {EARLIER: 3600, WRITTEN: 3200}
 
 
 # --- Numbers in bytes -------------------------------------------------------------------------------------------------
@@ -21,7 +22,7 @@ LENGTH, TRAILER, MOST = 18, 8, 3600
 class Layout:
     """Numbers in bytes as a `struct.Struct` has them, with any order of fields and bytes; a number is cut to its field."""
 
-    def __init__(self, sizes=RECORD_SIZES, order=None, big=(), signed=(DUV,)):
+    def __init__(self, sizes, order=None, big=(), signed=(DUV,)):
         self.fields = [(at, sizes[at], "big" if at in big else "little", at in signed) for at in order or range(len(sizes))]
         self.size = sum(sizes)
 
@@ -39,8 +40,8 @@ class Layout:
 class Changed(Layout):
     """Records whose numbers are changed on the way into bytes or out of them."""
 
-    def __init__(self, into=lambda *numbers: numbers, out_of=lambda *numbers: numbers):
-        super().__init__()
+    def __init__(self, sizes, into=lambda *numbers: numbers, out_of=lambda *numbers: numbers):
+        super().__init__(sizes)
         self.into, self.out_of = into, out_of
 
     def pack(self, *numbers):
@@ -48,6 +49,11 @@ class Changed(Layout):
 
     def unpack(self, data):
         return self.out_of(*super().unpack(data))
+
+
+def records_of(length, layout=Layout, **options):
+    """The layouts of both record lengths, where that of one length is another."""
+    return {**files.RECORDS, length: layout(RECORD_SIZES[length], **options)}
 
 
 def swapped(first, second, count=8):
@@ -61,22 +67,53 @@ def class_255_as_0(*numbers):
     return *numbers[:CLASS], numbers[CLASS] % 255
 
 
-def duv_without_its_sign(*numbers):
-    return *numbers[:DUV], abs(numbers[DUV]), *numbers[DUV + 1:]
+def with_duv(change):
+    """The numbers of a record with their Duv changed."""
+    def changed(*numbers):
+        return *numbers[:DUV], change(numbers[DUV]), *numbers[DUV + 1:]
+    changed.__name__ = "duv_" + change.__name__
+    return changed
 
 
-def sign_beside_the_duv(*numbers):
-    duv = numbers[DUV]
-    return *numbers[:DUV], duv if duv >= 0 else 2**15 - duv, *numbers[DUV + 1:]
+def without_its_sign(duv):
+    return abs(duv)
 
 
-def duv_from_the_middle(*numbers):
-    return *numbers[:DUV], numbers[DUV] + 2**15, *numbers[DUV + 1:]
+def with_the_sign_in_a_bit_beside_it(duv):
+    return duv if duv >= 0 else 2**31 - duv
+
+
+def counted_from_the_middle(duv):
+    return duv + 2**31
+
+
+def in_16_bits(duv):
+    return (duv + 2**15) % 2**16 - 2**15
+
+
+def in_16_bits_without_a_sign(duv):
+    return duv % 2**16
+
+
+def by_its_upper_half(duv):
+    return duv >> 16
+
+
+def with_its_halves_swapped(duv):
+    return (duv >> 16) % 2**16 + ((duv + 2**15) % 2**16 - 2**15) * 2**16
+
+
+def held_within(most):
+    """A number held within so many either side of 0."""
+    def held(number):
+        return min(max(number, -most), most)
+    held.__name__ = "held_within_%d" % most
+    return held
 
 
 def brought_to_what_is_answered(u, v, place, o, p, duv, steps, cls):
     place, o, p = (min(max(number, 5168), 64_600) for number in (place, o, p))
-    return min(u, 4_000_000), min(v, 4_000_000), place, o, p, min(max(duv, -30_000), 30_000), min(steps, 14), cls if cls < 31 else 255
+    return min(u, 4_000_000), min(v, 4_000_000), place, o, p, held_within(50_000)(duv), min(steps, 14), cls if cls < 31 else 255
 
 
 # --- The file ---------------------------------------------------------------------------------------------------------
@@ -88,29 +125,29 @@ def with_trailer(body, *numbers):
 
 def distance_to_the_end(records, file_of=files.file_of):
     body = file_of(records)[:-TRAILER]
-    return with_trailer(body, LENGTH, len(records), len(body) + TRAILER)
+    return with_trailer(body, WRITTEN, len(records), len(body) + TRAILER)
 
 
 def distance_from_the_start_to_the_first_record(records, file_of=files.file_of):
-    return with_trailer(file_of(records)[:-TRAILER], LENGTH, len(records), 0)
+    return with_trailer(file_of(records)[:-TRAILER], WRITTEN, len(records), 0)
 
 
 def distance_in_records(records, file_of=files.file_of):
-    return with_trailer(file_of(records)[:-TRAILER], LENGTH, len(records), len(records))
+    return with_trailer(file_of(records)[:-TRAILER], WRITTEN, len(records), len(records))
 
 
 def distance_back_to_the_last_record(records, file_of=files.file_of):
-    return with_trailer(file_of(records)[:-TRAILER], LENGTH, len(records), LENGTH * min(len(records), 1))
+    return with_trailer(file_of(records)[:-TRAILER], WRITTEN, len(records), WRITTEN * min(len(records), 1))
 
 
 def count_in_bytes(records, file_of=files.file_of):
     body = file_of(records)[:-TRAILER]
-    return with_trailer(body, LENGTH, len(body) % 2**16, len(body))
+    return with_trailer(body, WRITTEN, len(body) % 2**16, len(body))
 
 
 def last_index_for_the_count(records, file_of=files.file_of):
     body = file_of(records)[:-TRAILER]
-    return with_trailer(body, LENGTH, max(len(records), 1) - 1, len(body))
+    return with_trailer(body, WRITTEN, max(len(records), 1) - 1, len(body))
 
 
 def trailer_first(records, file_of=files.file_of):
@@ -161,20 +198,43 @@ def as_long_as_all_but(at):
 # --- The writer -------------------------------------------------------------------------------------------------------
 
 
+def written_by(length, most):
+    """A writer of another record length or limit, which cuts a number to its field."""
+    def write(records, room):
+        if len(records) > most:
+            return TOO_MANY_RECORDS, b""
+        if length * len(records) + TRAILER > room:
+            return NO_ROOM, b""
+        layout = Layout(RECORD_SIZES[length])
+        body = b"".join(layout.pack(*record) for record in records)
+        return 0, with_trailer(body, length, len(records), len(body))
+    return write
+
+
+def the_earlier_length_written_where_it_fits(records, room, write=files.write):
+    fit = all(in_16_bits(record[DUV]) == record[DUV] for record in records)
+    return written_by(EARLIER, MOST[WRITTEN])(records, room) if fit else write(records, room)
+
+
+def duv_beyond_16_bits_refused(records, room, write=files.write):
+    fit = all(in_16_bits(record[DUV]) == record[DUV] for record in records)
+    return write(records, room) if fit else (BAD_TRAILER, b"")
+
+
 def room_before_the_count(records, room, write=files.write):
-    return (NO_ROOM, b"") if LENGTH * len(records) + TRAILER > room else write(records, room)
+    return (NO_ROOM, b"") if WRITTEN * len(records) + TRAILER > room else write(records, room)
 
 
 def writer_without_a_limit(records, room):
-    return (0, files.file_of(records[:2**16 - 1])) if LENGTH * len(records) + TRAILER <= room else (NO_ROOM, b"")
+    return (0, files.file_of(records[:2**16 - 1])) if WRITTEN * len(records) + TRAILER <= room else (NO_ROOM, b"")
 
 
 def count_wraps_in_the_writer(records, room, write=files.write):
     return write(records[:len(records) % 2**16], room)
 
 
-def first_3600_are_written(records, room, write=files.write):
-    return write(records[:MOST], room)
+def first_3200_are_written(records, room, write=files.write):
+    return write(records[:MOST[WRITTEN]], room)
 
 
 def exact_room_refused(records, room, write=files.write):
@@ -192,11 +252,11 @@ def room_without_the_trailer(records, room, write=files.write):
 
 
 def room_in_whole_records(records, room, write=files.write):
-    return write(records, room // LENGTH * LENGTH + TRAILER)
+    return write(records, room // WRITTEN * WRITTEN + TRAILER)
 
 
 def what_has_room_is_written(records, room, write=files.write):
-    return write(records[:max(0, room - TRAILER) // LENGTH], room)
+    return write(records[:max(0, room - TRAILER) // WRITTEN], room)
 
 
 def no_room_gives_11(records, room, write=files.write):
@@ -222,11 +282,12 @@ def trailer_or_zeros(file):
 
 
 def broken(file, room):
-    """Whether a file breaks each of the reader's rules."""
+    """Whether a file breaks each of the reader's rules; another record length than the two counts as that which is written."""
     length, count, distance = trailer_or_zeros(file)
-    agrees = distance == LENGTH * count and len(file) == LENGTH * count + TRAILER
-    return {NO_TRAILER: len(file) < TRAILER, BAD_RECORD_LENGTH: length != LENGTH, BAD_TRAILER: not agrees,
-            TOO_MANY_RECORDS: count > MOST, NO_ROOM: count > room}
+    own = length if length in LENGTHS else WRITTEN
+    agrees = distance == own * count and len(file) == own * count + TRAILER
+    return {NO_TRAILER: len(file) < TRAILER, BAD_RECORD_LENGTH: length != own, BAD_TRAILER: not agrees,
+            TOO_MANY_RECORDS: count > MOST[own], NO_ROOM: count > room}
 
 
 def form_in_order(*order):
@@ -241,21 +302,31 @@ def read_in_order(*order):
     """The reader with its rules in another order, or some left out."""
     def read(file, room):
         refusal = next((number for number in order if broken(file, room)[number]), 0)
-        return refusal, [] if refusal else [files.record_at(file, index) for index in range(trailer_or_zeros(file)[1])]
+        length, count, _ = trailer_or_zeros(file)
+        return refusal, [] if refusal else [files.record_at(file, length, index) for index in range(count)]
     return read
 
 
-def form_with(is_length=lambda length: length == LENGTH, agrees=lambda size, count, distance: size == distance == LENGTH * count):
-    """The form with another rule for the record length, or for the bytes before the trailer, the count and the distance."""
+def is_either(length):
+    return length in LENGTHS
+
+
+def all_agree(size, distance, count, length):
+    return size == distance == length * count
+
+
+def form_with(is_length=is_either, agrees=all_agree, most=MOST):
+    """The form with another rule for the record length; for the bytes before the trailer, the distance, the count and the record length; or
+    for the most records of each length."""
     def form(file):
         if len(file) < TRAILER:
             return NO_TRAILER, 0
         length, count, distance = files.trailer_of(file)
         if not is_length(length):
             return BAD_RECORD_LENGTH, 0
-        if not agrees(len(file) - TRAILER, count, distance):
+        if not agrees(len(file) - TRAILER, distance, count, length):
             return BAD_TRAILER, 0
-        return (TOO_MANY_RECORDS, 0) if count > MOST else (0, count)
+        return (TOO_MANY_RECORDS, 0) if count > most.get(length, most[WRITTEN]) else (0, count)
     return form
 
 
@@ -263,84 +334,117 @@ def any_record_length(length):
     return True
 
 
-def record_length_of_18_or_20(length):
-    return length in (18, 20)
+def record_length_of_18_only(length):
+    return length == 18
+
+
+def record_length_of_20_only(length):
+    return length == 20
+
+
+def record_length_of_18_to_20(length):
+    return 18 <= length <= 20
 
 
 def record_length_of_18_or_more(length):
     return length >= 18
 
 
-def record_length_up_to_18(length):
-    return length <= 18
+def record_length_up_to_20(length):
+    return length <= 20
 
 
 def record_length_by_one_byte(length):
-    return length % 256 == 18
+    return length % 256 in LENGTHS
 
 
-def count_not_compared(size, count, distance):
+def record_length_by_its_upper_byte_too(length):
+    return length in LENGTHS or length // 256 in LENGTHS
+
+
+def judged_with(other):
+    """The bytes, the distance and the count by one record length for every file."""
+    return lambda size, distance, count, length: size == distance == other * count
+
+
+def distance_judged_with(other):
+    return lambda size, distance, count, length: size == length * count and distance == other * count
+
+
+def size_judged_with(other):
+    return lambda size, distance, count, length: distance == length * count and size == other * count
+
+
+def either_length_suffices(size, distance, count, length):
+    return size == distance in (EARLIER * count, WRITTEN * count)
+
+
+def the_other_length_judged(size, distance, count, length):
+    return size == distance == (EARLIER + WRITTEN - length) * count
+
+
+def count_not_compared(size, distance, count, length):
     return size == distance
 
 
-def distance_not_compared(size, count, distance):
-    return size == LENGTH * count
+def distance_not_compared(size, distance, count, length):
+    return size == length * count
 
 
-def size_not_compared(size, count, distance):
-    return distance == LENGTH * count
+def size_not_compared(size, distance, count, length):
+    return distance == length * count
 
 
-def more_bytes_before_the_records_taken(size, count, distance):
-    return size >= distance == LENGTH * count
+def more_bytes_before_the_records_taken(size, distance, count, length):
+    return size >= distance == length * count
 
 
-def fewer_bytes_taken(size, count, distance):
-    return size <= distance == LENGTH * count
+def fewer_bytes_taken(size, distance, count, length):
+    return size <= distance == length * count
 
 
-def part_of_a_record_more_taken(size, count, distance):
-    return distance == LENGTH * count and size // LENGTH == count
+def part_of_a_record_more_taken(size, distance, count, length):
+    return distance == length * count and size // max(length, 1) == count
 
 
-def a_byte_more_taken(size, count, distance):
-    return distance == LENGTH * count and size in (distance, distance + 1)
+def a_byte_more_taken(size, distance, count, length):
+    return distance == length * count and size in (distance, distance + 1)
 
 
-def distance_to_the_end_taken(size, count, distance):
-    return size == LENGTH * count and distance in (size, size + TRAILER)
+def distance_to_the_end_taken(size, distance, count, length):
+    return size == length * count and distance in (size, size + TRAILER)
 
 
-def only_distance_to_the_end_taken(size, count, distance):
-    return size == LENGTH * count == distance - TRAILER
+def only_distance_to_the_end_taken(size, distance, count, length):
+    return size == length * count == distance - TRAILER
 
 
-def distance_of_0_taken(size, count, distance):
-    return size == LENGTH * count and distance in (0, size)
+def distance_of_0_taken(size, distance, count, length):
+    return size == length * count and distance in (0, size)
 
 
-def distance_up_to_the_records_taken(size, count, distance):
-    return size == LENGTH * count and distance <= size
+def distance_up_to_the_records_taken(size, distance, count, length):
+    return size == length * count and distance <= size
 
 
-def product_of_16_bits(size, count, distance):
-    return size == distance == LENGTH * count % 2**16
+def product_of_16_bits(size, distance, count, length):
+    return size == distance == length * count % 2**16
 
 
-def distance_by_two_bytes(size, count, distance):
-    return size == LENGTH * count and distance % 2**16 == size % 2**16
+def distance_by_two_bytes(size, distance, count, length):
+    return size == length * count and distance % 2**16 == size % 2**16
 
 
-def size_by_two_bytes(size, count, distance):
-    return distance == LENGTH * count and distance % 2**16 == size % 2**16
+def size_by_two_bytes(size, distance, count, length):
+    return distance == length * count and distance % 2**16 == size % 2**16
 
 
-def distance_by_three_bytes(size, count, distance):
-    return size == LENGTH * count and distance % 2**24 == size
+def distance_by_three_bytes(size, distance, count, length):
+    return size == length * count and distance % 2**24 == size
 
 
-def no_records_refused(size, count, distance):
-    return count > 0 and size == distance == LENGTH * count
+def no_records_refused(size, distance, count, length):
+    return count > 0 and size == distance == length * count
 
 
 def by_the_record_length_of_the_file(file, form=files.form):
@@ -392,7 +496,7 @@ def a_record_too_little_suffices(file, room, read=files.read):
 
 
 def what_has_room_is_read(file, room, read=files.read):
-    refusal, records = read(file, MOST)
+    refusal, records = read(file, MOST[EARLIER])
     return refusal, records[:room]
 
 
@@ -406,6 +510,11 @@ def record_of_zeros_ends_the_list(file, room, read=files.read):
     return refusal, records[:next((at for at, record in enumerate(records) if not any(record)), len(records))]
 
 
+def earlier_files_read_up_to_what_is_written(file, room, read=files.read):
+    refusal, records = read(file, room)
+    return (NO_ROOM, []) if len(records) > MOST[WRITTEN] else (refusal, records)
+
+
 def other_numbers_refused_by_the_reader(file, room, read=files.read):
     refusal, records = read(file, room)
     taken = all(record == brought_to_what_is_answered(*record) for record in records)
@@ -415,45 +524,61 @@ def other_numbers_refused_by_the_reader(file, room, read=files.read):
 # --- The record at an index -------------------------------------------------------------------------------------------
 
 
-def numbered_from_1(file, index, record_at=files.record_at):
-    return record_at(file, index - 1) if index else (0,) * 8
+def by_one_length(other):
+    """The record at an index by one record length for every file."""
+    return lambda data, length, index, record_at=files.record_at: record_at(data, other, index)
 
 
-def numbered_from_the_end(file, index, record_at=files.record_at):
-    count = max(0, len(file) - TRAILER) // LENGTH
-    return record_at(file, count - 1 - index if index < count else index)
+def from_the_ninth_byte_on(data, length, index, record_at=files.record_at):
+    return record_at(data[TRAILER:], length, index)
 
 
-def record_at_the_end_left_out(file, index, record_at=files.record_at):
-    return record_at(file[:-1], index)
+def numbered_from_1(file, index, file_record=files.file_record):
+    return file_record(file, index - 1) if index else files.NO_RECORD
 
 
-def never_in_the_trailer(file, index, record_at=files.record_at):
-    return record_at(file[:-TRAILER], index)
+def numbered_from_the_end(file, index, file_record=files.file_record):
+    _, count = files.form(file)
+    return file_record(file, count - 1 - index if index < count else index)
 
 
-def only_of_a_good_file(file, index, record_at=files.record_at):
-    refusal, count = files.form(file)
-    return (0,) * 8 if refusal or index >= count else record_at(file, index)
+def last_record_left_out(file, index, file_record=files.file_record):
+    return file_record(file, index) if index + 1 < files.form(file)[1] else files.NO_RECORD
 
 
-def missing_bytes_are_zeros(file, index, record_at=files.record_at):
-    return record_at(file + bytes(LENGTH - 1), index)
+def index_held_to_the_last(file, index, file_record=files.file_record):
+    return file_record(file, min(index, max(1, files.form(file)[1]) - 1))
 
 
-def index_held_to_the_last(file, index, record_at=files.record_at):
-    return record_at(file, min(index, max(1, len(file) // LENGTH) - 1))
+def of_any_bytes(length):
+    """The record at an index of the bytes, whatever follows, by one record length."""
+    return lambda file, index: files.record_at(file, length, index)
+
+
+def of_any_trailer(file, index):
+    return files.record_at(file, trailer_or_zeros(file)[0], index)
+
+
+def although_refused_with(*numbers):
+    """The record of a file that is refused with some numbers too, where the trailer counts it and the bytes have it."""
+    def file_record(file, index, right=files.file_record):
+        length, count, _ = trailer_or_zeros(file)
+        refused = files.form(file)[0] in numbers and index < count
+        return files.record_at(file[:-TRAILER], length, index) if refused else right(file, index)
+    return file_record
 
 
 def product_wraps_at(bits):
-    """The bytes from the product of index and 18 on, of which only so many bits are kept."""
-    def record_at(file, index, right=files.record_at):
-        return right(file[LENGTH * index % 2**bits:], 0)
-    return record_at
+    """The record from the product of index and record length on, of which only so many bits are kept."""
+    def file_record(file, index, right=files.file_record):
+        refusal, _ = files.form(file)
+        length, _, _ = trailer_or_zeros(file)
+        return files.NO_RECORD if refusal else files.record_at(file[length * index % 2**bits:-TRAILER], length, 0)
+    return file_record
 
 
 def index_wraps_at(bits):
-    return lambda file, index, record_at=files.record_at: record_at(file, index % 2**bits)
+    return lambda file, index, file_record=files.file_record: file_record(file, index % 2**bits)
 
 
 # --- Targets ----------------------------------------------------------------------------------------------------------
@@ -481,19 +606,19 @@ def put_at_the_end(target, given):
 
 def records_before_the_room(target, columns, write_into=files.write_into):
     refusal, count, after = write_into(target, columns)
-    body = files.file_of(files.listed(columns)[:MOST])[:-TRAILER]
+    body = files.file_of(files.listed(columns)[:MOST[WRITTEN]])[:-TRAILER]
     return refusal, count, files.over(target, body[:len(target)]) if refusal == NO_ROOM else after
 
 
-def first_3600_before_the_refusal(target, columns, write_into=files.write_into):
+def first_3200_before_the_refusal(target, columns, write_into=files.write_into):
     refusal, count, after = write_into(target, columns)
-    body = files.file_of(files.listed(columns)[:MOST])[:-TRAILER]
+    body = files.file_of(files.listed(columns)[:MOST[WRITTEN]])[:-TRAILER]
     return refusal, count, files.over(target, body[:len(target)]) if refusal == TOO_MANY_RECORDS else after
 
 
 def records_written_for_bytes(target, columns, write_into=files.write_into):
     refusal, count, after = write_into(target, columns)
-    return refusal, count // LENGTH, after
+    return refusal, count // WRITTEN, after
 
 
 def records_alone_counted(target, columns, write_into=files.write_into):
@@ -513,8 +638,9 @@ def read_before(number):
         refusal, count, after = right(targets, file)
         if refusal != number:
             return refusal, count, after
-        whole = min(max(0, len(file) - TRAILER) // LENGTH, *map(len, targets))
-        records = [files.record_at(file, index) for index in range(whole)]
+        length = trailer_or_zeros(file)[0] if trailer_or_zeros(file)[0] in LENGTHS else WRITTEN
+        whole = min(max(0, len(file) - TRAILER) // length, *map(len, targets))
+        records = [files.record_at(file, length, index) for index in range(whole)]
         columns = zip(*records) if records else [()] * len(targets)
         return refusal, count, [files.over(target, column) for target, column in zip(targets, columns)]
     return read_into
@@ -544,7 +670,7 @@ def least_but(at):
 
 def bytes_read_for_records(targets, file, read_into=files.read_into):
     refusal, count, after = read_into(targets, file)
-    return refusal, LENGTH * count, after
+    return refusal, WRITTEN * count, after
 
 
 READER = (NO_TRAILER, BAD_RECORD_LENGTH, BAD_TRAILER, TOO_MANY_RECORDS, NO_ROOM)
@@ -559,36 +685,53 @@ def without(number):
     return tuple(other for other in READER if other != number)
 
 
-LENGTH_RULES = (any_record_length, record_length_of_18_or_20, record_length_of_18_or_more, record_length_up_to_18,
-                record_length_by_one_byte)
-AGREEMENTS = (count_not_compared, distance_not_compared, size_not_compared, more_bytes_before_the_records_taken, fewer_bytes_taken,
-              part_of_a_record_more_taken, a_byte_more_taken, distance_to_the_end_taken, only_distance_to_the_end_taken,
-              distance_of_0_taken, distance_up_to_the_records_taken, product_of_16_bits, distance_by_two_bytes, size_by_two_bytes,
-              distance_by_three_bytes, no_records_refused)
+LENGTH_RULES = (any_record_length, record_length_of_18_only, record_length_of_20_only, record_length_of_18_to_20,
+                record_length_of_18_or_more, record_length_up_to_20, record_length_by_one_byte, record_length_by_its_upper_byte_too)
+AGREEMENTS = (either_length_suffices, the_other_length_judged, count_not_compared, distance_not_compared, size_not_compared,
+              more_bytes_before_the_records_taken, fewer_bytes_taken, part_of_a_record_more_taken, a_byte_more_taken,
+              distance_to_the_end_taken, only_distance_to_the_end_taken, distance_of_0_taken, distance_up_to_the_records_taken,
+              product_of_16_bits, distance_by_two_bytes, size_by_two_bytes, distance_by_three_bytes, no_records_refused)
 TRAILER_FIELDS = ("length", "count", "distance")
+
+# The most records of each length, otherwise than they are.
+LIMITS = {
+    "3,600 for both lengths": {EARLIER: 3600, WRITTEN: 3600}, "3,200 for both lengths": {EARLIER: 3200, WRITTEN: 3200},
+    "the limits swapped": {EARLIER: 3200, WRITTEN: 3600}, "no limit but the count's": {EARLIER: 65_535, WRITTEN: 65_535},
+    **{"%d records of %d bytes" % (most, length): {**MOST, length: most} for length, numbers in (
+        (EARLIER, (3599, 3601, 65_535 // 18, 65_535)), (WRITTEN, (3199, 3201, 65_535 // 20, 65_535))) for most in numbers},
+}
 
 
 def words(rule):
     return rule.__name__.replace("_", " ")
 
 
+def layout_rules(length):
+    """Wrong layouts of the records of one length."""
+    of, titled = (lambda **options: records_of(length, **options)), lambda title: "%s, in %d bytes" % (title, length)
+    changed = (class_255_as_0, with_duv(without_its_sign), with_duv(held_within(30_000)), with_duv(by_its_upper_half),
+               brought_to_what_is_answered)
+    return (
+        ("RECORDS", of(big=range(8)), titled("big-endian records")),
+        *(("RECORDS", of(big={at}), titled("big-endian " + FIELDS[at])) for at in range(6)),
+        *(("RECORDS", of(order=swapped(at, at + 1)), titled("%s before %s" % (FIELDS[at + 1], FIELDS[at]))) for at in range(7)),
+        ("RECORDS", of(order=swapped(2, 4)), titled("p, o, place")),
+        ("RECORDS", of(signed=()), titled("Duv unsigned")),
+        *(("RECORDS", of(signed=(at, DUV)), titled(FIELDS[at] + " signed")) for at in range(8) if at != DUV),
+        *(("RECORDS", of(layout=Changed, out_of=change), titled("read " + words(change))) for change in changed),
+    )
+
+
+WRITTEN_CHANGES = (class_255_as_0, brought_to_what_is_answered, *map(with_duv, (
+    without_its_sign, with_the_sign_in_a_bit_beside_it, counted_from_the_middle, in_16_bits, in_16_bits_without_a_sign, by_its_upper_half,
+    with_its_halves_swapped, held_within(30_000), held_within(50_000), held_within(32_767))))
+READ_CHANGES = tuple(map(with_duv, (in_16_bits, in_16_bits_without_a_sign, with_its_halves_swapped, held_within(50_000), held_within(32_767))))
+
 WRONG_RECORD_RULES = (
-    ("RECORD", struct.Struct(">IIHHHhBB"), "big-endian records"),
-    ("RECORD", struct.Struct("<IIHHHhBBxx"), "records padded to 20 bytes"),
-    ("RECORD", struct.Struct("<IIHHHiBB"), "Duv in 4 bytes"),
-    *(("RECORD", Layout(big={at}), "big-endian " + FIELDS[at]) for at in range(6)),
-    *(("RECORD", Layout(order=swapped(at, at + 1)), "%s before %s" % (FIELDS[at + 1], FIELDS[at])) for at in range(7)),
-    ("RECORD", Layout(order=swapped(2, 4)), "p, o, place"),
-    ("RECORD", Layout(signed=()), "Duv unsigned"),
-    *(("RECORD", Layout(signed=(at, DUV)), FIELDS[at] + " signed") for at in range(8) if at != DUV),
-    ("RECORD", Changed(into=class_255_as_0), "class 255 written as 0"),
-    ("RECORD", Changed(out_of=class_255_as_0), "class 255 read as 0"),
-    ("RECORD", Changed(into=duv_without_its_sign), "Duv written without its sign"),
-    ("RECORD", Changed(out_of=duv_without_its_sign), "Duv read without its sign"),
-    ("RECORD", Changed(into=sign_beside_the_duv), "the sign in a bit beside Duv"),
-    ("RECORD", Changed(into=duv_from_the_middle), "Duv counted from -32,768"),
-    ("RECORD", Changed(into=brought_to_what_is_answered), "numbers written as far as they are answered"),
-    ("RECORD", Changed(out_of=brought_to_what_is_answered), "numbers read as far as they are answered"),
+    *layout_rules(WRITTEN),
+    *layout_rules(EARLIER),
+    *(("RECORDS", records_of(WRITTEN, Changed, into=change), "written " + words(change)) for change in WRITTEN_CHANGES),
+    *(("RECORDS", records_of(WRITTEN, Changed, out_of=change), "read " + words(change)) for change in READ_CHANGES),
     ("TRAILER", struct.Struct(">HHI"), "big-endian trailer"),
     *(("TRAILER", Layout(TRAILER_SIZES, big={at}, signed=()), "big-endian " + name) for at, name in enumerate(TRAILER_FIELDS)),
     ("TRAILER", Layout(TRAILER_SIZES, order=(1, 0, 2), signed=()), "count before record length"),
@@ -596,10 +739,11 @@ WRONG_RECORD_RULES = (
     ("TRAILER", Layout(TRAILER_SIZES, order=(0, 2, 1), signed=()), "distance before count"),
     ("TRAILER", Layout((2, 4, 2), signed=()), "count in 4 and distance in 2"),
     ("TRAILER", Layout((4, 4, 4), signed=()), "a trailer of 12 bytes"),
-    ("MOST_RECORDS", MOST - 1),
-    ("MOST_RECORDS", MOST + 1),
-    ("MOST_RECORDS", 3640, "as many records as 65,535 bytes hold"),
-    ("MOST_RECORDS", 65_535),
+    *(("MOST_RECORDS", most, title) for title, most in LIMITS.items()),
+    *(("form", form_with(most=most), title + " at the reader") for title, most in LIMITS.items()),
+    ("write", written_by(EARLIER, 3600), "18 written"),
+    ("write", written_by(EARLIER, 3200), "18 written, up to 3,200"),
+    ("write", written_by(WRITTEN, 3600), "3,600 of 20 written"),
     *(("file_of", rule) for rule in (
         distance_to_the_end, distance_from_the_start_to_the_first_record, distance_in_records, distance_back_to_the_last_record,
         count_in_bytes, last_index_for_the_count, trailer_first, no_trailer_without_records, last_record_first, same_record_once)),
@@ -609,11 +753,14 @@ WRONG_RECORD_RULES = (
     *(("listed", as_long_as(at), "as long as " + name) for at, name in enumerate(FIELDS)),
     *(("listed", as_long_as_all_but(at), "any length of " + name) for at, name in enumerate(FIELDS)),
     *(("write", rule) for rule in (
-        room_before_the_count, writer_without_a_limit, count_wraps_in_the_writer, first_3600_are_written, exact_room_refused,
+        the_earlier_length_written_where_it_fits, duv_beyond_16_bits_refused, room_before_the_count, writer_without_a_limit,
+        count_wraps_in_the_writer, first_3200_are_written, exact_room_refused,
         a_byte_too_little_suffices, room_without_the_trailer, room_in_whole_records, what_has_room_is_written, no_room_gives_11,
         empty_list_not_written, other_numbers_refused_by_the_writer)),
     *(("form", form_with(is_length=rule), words(rule)) for rule in LENGTH_RULES),
     *(("form", form_with(agrees=rule), words(rule)) for rule in AGREEMENTS),
+    *(("form", form_with(agrees=rule(length)), "%s %d for every file" % (words(rule), length))
+      for rule in (judged_with, distance_judged_with, size_judged_with) for length in LENGTHS),
     ("form", form_in_order(14, 13, 15, 11), "14 before 13"),
     ("form", form_in_order(15, 13, 14, 11), "15 before 13"),
     ("form", form_in_order(13, 15, 14, 11), "15 before 14"),
@@ -632,15 +779,18 @@ WRONG_RECORD_RULES = (
     ("read", read_in_order(*without(TOO_MANY_RECORDS)), "no limit where the room suffices"),
     *(("read", rule) for rule in (
         exact_room_refused_by_the_reader, a_record_too_little_suffices, what_has_room_is_read, read_from_the_last,
-        record_of_zeros_ends_the_list, other_numbers_refused_by_the_reader)),
-    *(("record_at", rule) for rule in (
-        numbered_from_1, numbered_from_the_end, record_at_the_end_left_out, never_in_the_trailer, only_of_a_good_file,
-        missing_bytes_are_zeros, index_held_to_the_last)),
-    *(("record_at", product_wraps_at(bits), "18 times the index in %d bits" % bits) for bits in (16, 32, 64)),
-    *(("record_at", index_wraps_at(bits), "the index in %d bits" % bits) for bits in (8, 16, 32, 63)),
+        record_of_zeros_ends_the_list, earlier_files_read_up_to_what_is_written, other_numbers_refused_by_the_reader)),
+    *(("record_at", by_one_length(length), "records by %d bytes in every file" % length) for length in LENGTHS),
+    ("record_at", from_the_ninth_byte_on),
+    *(("file_record", rule) for rule in (
+        numbered_from_1, numbered_from_the_end, last_record_left_out, index_held_to_the_last, of_any_trailer)),
+    *(("file_record", of_any_bytes(length), "the record of any bytes by %d" % length) for length in LENGTHS),
+    *(("file_record", although_refused_with(number), "the record of a file although refused with %d" % number) for number in (15, 11)),
+    *(("file_record", product_wraps_at(bits), "the product with the index in %d bits" % bits) for bits in (16, 32, 64)),
+    *(("file_record", index_wraps_at(bits), "the index in %d bits" % bits) for bits in (8, 16, 32, 63)),
     *(("over", rule) for rule in (rest_made_zero, rest_cut_off, beyond_refused_too, one_more_made_zero, put_at_the_end)),
     *(("write_into", rule) for rule in (
-        records_before_the_room, first_3600_before_the_refusal, records_written_for_bytes, records_alone_counted,
+        records_before_the_room, first_3200_before_the_refusal, records_written_for_bytes, records_alone_counted,
         trailer_at_the_end_of_the_target)),
     *(("read_into", cleared_before(number), "columns cleared before refusal %d" % number) for number in READER),
     *(("read_into", read_before(number), "columns read into before refusal %d" % number) for number in READER[1:]),

@@ -17,8 +17,8 @@ SAME_LAYOUT(sizeof(ck_answer) == 40);
 SAME_LAYOUT(offsetof(ck_answer, whole) == 16);
 SAME_LAYOUT(offsetof(ck_whole, duv) == 12);
 SAME_LAYOUT(offsetof(ck_whole, class_index) == 18);
-SAME_LAYOUT(sizeof(ck_kept) == 24);
-SAME_LAYOUT(offsetof(ck_kept, kept) == 20);
+SAME_LAYOUT(sizeof(ck_kept) == 28);
+SAME_LAYOUT(offsetof(ck_kept, kept) == 24);
 
 enum { SAMPLES, X_BAR, Y_BAR, Z_BAR, EDGES, LISTS };
 enum { MOST_NUMBERS = 1024 };
@@ -278,32 +278,46 @@ static void samples_that_are_their_tables(void) {
     expect_equal_energy(lists, "one list in all four places");
 }
 
-/* Lines of document 01's listing. */
-static void listing(void) {
-    const uint32_t *edges = lend(EDGES, GOOD_EDGES, GOOD_COUNT).numbers;
-    ck_answer a = ck_read_micro(219300, 327100, edges, GOOD_COUNT, 2);
+/* The whole numbers of an answer. */
+static void expect_whole(ck_answer a, const char *expected, const char *line) {
     char shown[LONGEST_LINE], *end = shown;
     show(shown, sizeof shown, a);
     for (int words = 0; words < 7; words++) end = strchr(end, ' ') + 1;
     end[-1] = '\0';
-    if (strcmp(shown, "0 23112 21892 23866 -2331 2 2") != 0) fail("219300 327100 2", shown);
+    if (strcmp(shown, expected) != 0) fail(line, shown);
+}
+
+/* Lines of document 01's listing. */
+static void listing(void) {
+    const uint32_t *edges = lend(EDGES, GOOD_EDGES, GOOD_COUNT).numbers;
+    ck_answer a = ck_read_micro(219300, 327100, edges, GOOD_COUNT, 2);
+    expect_whole(a, "0 23112 21892 23866 -2331 2 2", "219300 327100 2");
     if (a.kelvin != 103360000.0 / 23112 || a.duv != -2331 / 1e6) fail("219300 327100 2", "the doubles");
-    expect_refused(ck_read_micro(345070, 330529, edges, GOOD_COUNT, 0), CK_TOO_FAR, "345070 330529 0");
+    expect_whole(ck_read_micro(345070, 330530, edges, GOOD_COUNT, 0), "0 64600 62016 64600 -30000 0 0", "345070 330530 0");
+    expect_whole(ck_read_micro(345070, 330529, edges, GOOD_COUNT, 0), "0 64600 62016 64600 -30001 0 0", "345070 330529 0");
+    expect_whole(ck_read_micro(345070, 310530, edges, GOOD_COUNT, 0), "0 64600 62016 64600 -50000 0 0", "345070 310530 0");
+    expect_refused(ck_read_micro(345070, 310529, edges, GOOD_COUNT, 0), CK_TOO_FAR, "345070 310529 0");
     expect_refused(ck_read_micro(183000, 276000, edges, GOOD_COUNT, 14), CK_TOO_HOT, "183000 276000");
     expect_refused(ck_read_micro(346000, 360540, edges, GOOD_COUNT, 14), CK_TOO_COOL, "346000 360540");
 }
 
-/* Answers that this library never gives: numbers at the limits of their fields and beyond them, and refusals with other numbers. */
+/* Answers that this library never gives: numbers at the limits of their fields, places beyond them, any Duv, and refusals with other
+ * numbers. */
 static void records_of_any_answer(void) {
-    const ck_whole largest = {65535, 65535, 65535, 32767, CK_ACCEPTED, 255, 255};
-    const ck_whole least = {0, 0, 0, -32767, CK_ACCEPTED, 0, 0};
+    static const int32_t duvs[] = {0, -1, 30001, -30001, 32767, -32767, 32768, -32768, -32769, 50000, -50001, 65536, INT32_MAX - 1, INT32_MIN + 1};
+    const ck_whole largest = {65535, 65535, 65535, INT32_MAX, CK_ACCEPTED, 255, 255};
+    const ck_whole least = {0, 0, 0, INT32_MIN, CK_ACCEPTED, 0, 0};
     check_record(UINT32_MAX, 0, largest, 1, "every field the largest");
     check_record(0, UINT32_MAX, least, 1, "every field the least");
-    for (int which = 0; which < 9; which++) {
+    for (size_t i = 0; i < sizeof duvs / sizeof *duvs; i++) {
+        ck_whole other = largest;
+        other.duv = duvs[i];
+        check_record(1, 2, other, 1, "any Duv");
+    }
+    for (int which = 0; which < 6; which++) {
         ck_whole other = largest;
         uint32_t *const places[] = {&other.place, &other.low, &other.high};
-        if (which < 6) *places[which % 3] = which < 3 ? 65536 : UINT32_MAX;
-        if (which >= 6) other.duv = which == 6 ? 32768 : which == 7 ? -32768 : INT32_MIN;
+        *places[which % 3] = which < 3 ? 65536 : UINT32_MAX;
         check_record(1, 2, other, 0, "a number beyond its field");
     }
     for (int refusal = 1; refusal < 256; refusal++) {

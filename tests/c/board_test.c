@@ -13,20 +13,20 @@
 
 SAME_LAYOUT(CK_MOST_LOTS == 64);
 SAME_LAYOUT(CK_HIGHEST_STAMP == 65535);
-SAME_LAYOUT(sizeof(ck_lot) == 28);
+SAME_LAYOUT(sizeof(ck_lot) == 32);
 SAME_LAYOUT(offsetof(ck_lot, record) == 0);
-SAME_LAYOUT(offsetof(ck_lot, job) == 20);
-SAME_LAYOUT(offsetof(ck_lot, stamp) == 24);
-SAME_LAYOUT(sizeof(ck_board) == 1800);
+SAME_LAYOUT(offsetof(ck_lot, job) == 24);
+SAME_LAYOUT(offsetof(ck_lot, stamp) == 28);
+SAME_LAYOUT(sizeof(ck_board) == 2056);
 SAME_LAYOUT(offsetof(ck_board, count) == 0);
 SAME_LAYOUT(offsetof(ck_board, lots) == 8);
-SAME_LAYOUT(sizeof(ck_told) == 32);
+SAME_LAYOUT(sizeof(ck_told) == 36);
 SAME_LAYOUT(offsetof(ck_told, lot) == 0);
-SAME_LAYOUT(offsetof(ck_told, stamp) == 28);
-SAME_LAYOUT(offsetof(ck_told, refusal) == 30);
-SAME_LAYOUT(sizeof(ck_board_answer) == 1832);
+SAME_LAYOUT(offsetof(ck_told, stamp) == 32);
+SAME_LAYOUT(offsetof(ck_told, refusal) == 34);
+SAME_LAYOUT(sizeof(ck_board_answer) == 2096);
 SAME_LAYOUT(offsetof(ck_board_answer, board) == 0);
-SAME_LAYOUT(offsetof(ck_board_answer, told) == 1800);
+SAME_LAYOUT(offsetof(ck_board_answer, told) == 2056);
 
 enum { MOST_LOTS = 64, LAST_STAMP = 65535 };
 
@@ -34,7 +34,7 @@ static ck_board_answer load(const columns *c) {
     const void *const *at = c->at;
     const size_t *n = c->counts;
     return ck_board_load((const uint32_t *)at[U], n[U], (const uint32_t *)at[V], n[V], (const uint16_t *)at[PLACE], n[PLACE],
-                         (const uint16_t *)at[LOW], n[LOW], (const uint16_t *)at[HIGH], n[HIGH], (const int16_t *)at[DUV], n[DUV],
+                         (const uint16_t *)at[LOW], n[LOW], (const uint16_t *)at[HIGH], n[HIGH], (const int32_t *)at[DUV], n[DUV],
                          (const uint8_t *)at[STEPS], n[STEPS], (const uint8_t *)at[CLASS], n[CLASS]);
 }
 
@@ -42,7 +42,7 @@ static ck_board_answer load(const columns *c) {
 
 static uint32_t add_lot(uint32_t sum, const ck_lot *lot) {
     const ck_record *r = &lot->record;
-    const uint32_t numbers[] = {r->u, r->v, r->place, r->low, r->high, (uint16_t)r->duv, r->steps, r->class_index, lot->job, lot->stamp};
+    const uint32_t numbers[] = {r->u, r->v, r->place, r->low, r->high, (uint32_t)r->duv, r->steps, r->class_index, lot->job, lot->stamp};
     for (size_t i = 0; i < sizeof numbers / sizeof *numbers; i++) sum = with_number(sum, numbers[i]);
     return sum;
 }
@@ -131,6 +131,7 @@ static void expect(ck_board_answer a, uint8_t refusal, uint16_t stamp, const ck_
 
 /* A number for each column and index, at and about the limits of its width. */
 static uint32_t number_of(int k, size_t i) {
+    if (k == DUV && i % 5 == 4) return i % 2 ? INT32_MAX - (uint32_t)i : (uint32_t)INT32_MIN + (uint32_t)i;
     if (i % 3 == 0) return (uint32_t)(1000 * i + 77 * (size_t)k);
     return i % 3 == 1 ? UINT32_MAX - (uint32_t)i : 0;
 }
@@ -139,7 +140,7 @@ static ck_lot lot_of(size_t i) {
     ck_lot lot = NO_LOT;
     lot.record.u = number_of(U, i), lot.record.v = number_of(V, i);
     lot.record.place = (uint16_t)number_of(PLACE, i), lot.record.low = (uint16_t)number_of(LOW, i);
-    lot.record.high = (uint16_t)number_of(HIGH, i), lot.record.duv = (int16_t)(uint16_t)number_of(DUV, i);
+    lot.record.high = (uint16_t)number_of(HIGH, i), lot.record.duv = (int32_t)number_of(DUV, i);
     lot.record.steps = (uint8_t)number_of(STEPS, i), lot.record.class_index = (uint8_t)number_of(CLASS, i);
     return lot;
 }

@@ -7,7 +7,7 @@
 
 enum { U, V, PLACE, LOW, HIGH, DUV, STEPS, CLASS, COLUMNS };
 static const char LETTERS[] = "uvplhdsc";
-static const size_t WIDTHS[COLUMNS] = {4, 4, 2, 2, 2, 2, 1, 1}; /* in bytes */
+static const size_t WIDTHS[COLUMNS] = {4, 4, 2, 2, 2, 4, 1, 1}; /* in bytes */
 
 enum { MOST_NUMBERS = 69136 }; /* the most that a line of the vectors asks for */
 

@@ -20,7 +20,7 @@ SAME_LAYOUT(CK_MOST_DIFFERENCE_NUMBERS == 115200);
 SAME_LAYOUT(CK_MOST_DIFFERENCE_NUMBERS * sizeof(int64_t) == 921600);
 
 /* The most that a line of the vectors asks for. */
-enum { MOST_FIRST_BYTES = 65536, MOST_LISTED = CK_MOST_DIFFERENCE_NUMBERS + 64 };
+enum { MOST_FIRST_BYTES = 73728, MOST_LISTED = CK_MOST_DIFFERENCE_NUMBERS + 64 };
 
 static region file_region, first_region, target_region;
 
@@ -90,24 +90,34 @@ static long run_vectors(const char *calls_path, const char *answers_path) {
     return count;
 }
 
-/* --- Lists that were worked out by hand from document 02, No. 7 ---------------------------------------------------- */
+/* --- Lists that were worked out by hand from document 02, No. 7 and 8 ----------------------------------------------- */
 
 enum { NUMBERS = 4, ROOM = 48 };
 
-/* The answers to two lines of the listing, and the same with another Duv and class in record 1 and a record of zeros more. */
-static const uint8_t DESK[] = {0xa6, 0xe7, 3, 0, 0x46, 0x55, 5, 0, 0x50, 0x8d, 0x38, 0x83, 0x68, 0x97, 0, 0, 0, 1,
-                               0xa4, 0x58, 3, 0, 0xbc, 0xfd, 4, 0, 0xd8, 0x5a, 0xc0, 0x50, 0xf0, 0x64, 0xd5, 0xf6, 0, 255,
-                               18, 0, 2, 0, 36, 0, 0, 0};
-static const uint8_t BENCH[] = {0xa6, 0xe7, 3, 0, 0x46, 0x55, 5, 0, 0x50, 0x8d, 0x38, 0x83, 0x68, 0x97, 0, 0, 0, 1,
-                                0xa4, 0x58, 3, 0, 0xbc, 0xfd, 4, 0, 0xd8, 0x5a, 0xc0, 0x50, 0xf0, 0x64, 0x2b, 9, 0, 3,
-                                0, 0, 0, 0, 0, 0, 0, 0, 0, 0, 0, 0, 0, 0, 0, 0, 0, 0,
-                                18, 0, 3, 0, 54, 0, 0, 0};
-/* One record, whose bytes all differ but for Duv, which is -2, and class, which is none. */
-static const uint8_t UNLIKE[] = {4, 3, 2, 1, 8, 7, 6, 5, 10, 9, 12, 11, 15, 13, 254, 255, 14, 255, 18, 0, 1, 0, 18, 0, 0, 0};
-static const uint8_t LARGEST[] = {255, 255, 255, 255, 255, 255, 255, 255, 255, 255, 255, 255, 255, 255, 255, 127, 255, 255,
-                                  18, 0, 1, 0, 18, 0, 0, 0};
-static const uint8_t NONE[] = {18, 0, 0, 0, 0, 0, 0, 0};
-static const uint8_t LENGTH_OF_20[] = {20, 0, 0, 0, 0, 0, 0, 0}, NO_RECORD_THERE[] = {18, 0, 1, 0, 18, 0, 0, 0};
+/* The answers to two lines of the listing, and the same with another Duv and class in record 1 and a record of zeros more; then both with
+ * records of 18 bytes. */
+static const uint8_t DESK[] = {0xa6, 0xe7, 3, 0, 0x46, 0x55, 5, 0, 0x50, 0x8d, 0x38, 0x83, 0x68, 0x97, 0, 0, 0, 0, 0, 1,
+                               0xa4, 0x58, 3, 0, 0xbc, 0xfd, 4, 0, 0xd8, 0x5a, 0xc0, 0x50, 0xf0, 0x64, 0xd5, 0xf6, 0xff, 0xff, 0, 255,
+                               20, 0, 2, 0, 40, 0, 0, 0};
+static const uint8_t BENCH[] = {0xa6, 0xe7, 3, 0, 0x46, 0x55, 5, 0, 0x50, 0x8d, 0x38, 0x83, 0x68, 0x97, 0, 0, 0, 0, 0, 1,
+                                0xa4, 0x58, 3, 0, 0xbc, 0xfd, 4, 0, 0xd8, 0x5a, 0xc0, 0x50, 0xf0, 0x64, 0x2b, 9, 0, 0, 0, 3,
+                                0, 0, 0, 0, 0, 0, 0, 0, 0, 0, 0, 0, 0, 0, 0, 0, 0, 0, 0, 0,
+                                20, 0, 3, 0, 60, 0, 0, 0};
+static const uint8_t EARLIER_DESK[] = {0xa6, 0xe7, 3, 0, 0x46, 0x55, 5, 0, 0x50, 0x8d, 0x38, 0x83, 0x68, 0x97, 0, 0, 0, 1,
+                                       0xa4, 0x58, 3, 0, 0xbc, 0xfd, 4, 0, 0xd8, 0x5a, 0xc0, 0x50, 0xf0, 0x64, 0xd5, 0xf6, 0, 255,
+                                       18, 0, 2, 0, 36, 0, 0, 0};
+static const uint8_t EARLIER_BENCH[] = {0xa6, 0xe7, 3, 0, 0x46, 0x55, 5, 0, 0x50, 0x8d, 0x38, 0x83, 0x68, 0x97, 0, 0, 0, 1,
+                                        0xa4, 0x58, 3, 0, 0xbc, 0xfd, 4, 0, 0xd8, 0x5a, 0xc0, 0x50, 0xf0, 0x64, 0x2b, 9, 0, 3,
+                                        0, 0, 0, 0, 0, 0, 0, 0, 0, 0, 0, 0, 0, 0, 0, 0, 0, 0,
+                                        18, 0, 3, 0, 54, 0, 0, 0};
+/* One record, whose bytes all differ but for Duv, which is -2, and class, which is none; and one of the largest numbers. */
+static const uint8_t UNLIKE[] = {4, 3, 2, 1, 8, 7, 6, 5, 10, 9, 12, 11, 15, 13, 254, 255, 255, 255, 14, 255, 20, 0, 1, 0, 20, 0, 0, 0};
+static const uint8_t LARGEST[] = {255, 255, 255, 255, 255, 255, 255, 255, 255, 255, 255, 255, 255, 255, 255, 255, 255, 127, 255, 255,
+                                  20, 0, 1, 0, 20, 0, 0, 0};
+static const uint8_t EARLIER_LARGEST[] = {255, 255, 255, 255, 255, 255, 255, 255, 255, 255, 255, 255, 255, 255, 255, 127, 255, 255,
+                                          18, 0, 1, 0, 18, 0, 0, 0};
+static const uint8_t NONE[] = {20, 0, 0, 0, 0, 0, 0, 0}, EARLIER_NONE[] = {18, 0, 0, 0, 0, 0, 0, 0};
+static const uint8_t LENGTH_OF_19[] = {19, 0, 0, 0, 0, 0, 0, 0}, NO_RECORD_THERE[] = {20, 0, 1, 0, 20, 0, 0, 0};
 
 #define WHOLE(array) {array, sizeof array}
 
@@ -119,9 +129,15 @@ typedef struct worked {
 
 static const worked WORKED[] = {
     {WHOLE(NONE), WHOLE(NONE), 0, {0}},
+    {WHOLE(NONE), WHOLE(EARLIER_NONE), 0, {0}},
     {WHOLE(DESK), WHOLE(DESK), 0, {0}},
+    {WHOLE(DESK), WHOLE(EARLIER_DESK), 0, {0}},
+    {WHOLE(EARLIER_BENCH), WHOLE(BENCH), 0, {0}},
     {WHOLE(DESK), WHOLE(BENCH), 3, {1, 5, -2347, 2347, 1, 7, 255, 3, 2, 9, 0, 0}},
+    {WHOLE(DESK), WHOLE(EARLIER_BENCH), 3, {1, 5, -2347, 2347, 1, 7, 255, 3, 2, 9, 0, 0}},
+    {WHOLE(EARLIER_DESK), WHOLE(EARLIER_BENCH), 3, {1, 5, -2347, 2347, 1, 7, 255, 3, 2, 9, 0, 0}},
     {WHOLE(BENCH), WHOLE(DESK), 3, {1, 5, 2347, -2347, 1, 7, 3, 255, 2, 8, 0, 0}},
+    {WHOLE(EARLIER_BENCH), WHOLE(DESK), 3, {1, 5, 2347, -2347, 1, 7, 3, 255, 2, 8, 0, 0}},
     {WHOLE(NONE), WHOLE(DESK), 2, {0, 9, 0, 0, 1, 9, 0, 0}},
     {WHOLE(BENCH), WHOLE(NONE), 3, {0, 8, 0, 0, 1, 8, 0, 0, 2, 8, 0, 0}},
     {WHOLE(UNLIKE), WHOLE(DESK), 9,
@@ -129,7 +145,8 @@ static const worked WORKED[] = {
       0, 5, -2, 0, 0, 6, 14, 0, 0, 7, 255, 1, 1, 9, 0, 0}},
     {WHOLE(UNLIKE), WHOLE(LARGEST), 7,
      {0, 0, 16909060, 4294967295, 0, 1, 84281096, 4294967295, 0, 2, 2314, 65535, 0, 3, 2828, 65535, 0, 4, 3343, 65535,
-      0, 5, -2, 32767, 0, 6, 14, 255}},
+      0, 5, -2, 2147483647, 0, 6, 14, 255}},
+    {WHOLE(LARGEST), WHOLE(EARLIER_LARGEST), 1, {0, 5, 2147483647, 32767}},
 };
 
 typedef struct refused {
@@ -139,15 +156,16 @@ typedef struct refused {
 
 static const refused REFUSED[] = {
     {{NULL, 0}, {NULL, 0}, 1, CK_NO_TRAILER},
-    {WHOLE(LENGTH_OF_20), {NULL, 0}, 1, CK_BAD_RECORD_LENGTH},
-    {WHOLE(NO_RECORD_THERE), WHOLE(LENGTH_OF_20), 1, CK_BAD_TRAILER},
+    {WHOLE(LENGTH_OF_19), {NULL, 0}, 1, CK_BAD_RECORD_LENGTH},
+    {WHOLE(NO_RECORD_THERE), WHOLE(LENGTH_OF_19), 1, CK_BAD_TRAILER},
     {{DESK, sizeof DESK - 1}, WHOLE(DESK), 1, CK_BAD_RECORD_LENGTH},
     {WHOLE(DESK), {NULL, 0}, 2, CK_NO_TRAILER},
     {WHOLE(DESK), {NONE, 7}, 2, CK_NO_TRAILER},
-    {WHOLE(DESK), WHOLE(LENGTH_OF_20), 2, CK_BAD_RECORD_LENGTH},
+    {WHOLE(DESK), WHOLE(LENGTH_OF_19), 2, CK_BAD_RECORD_LENGTH},
     {WHOLE(NONE), WHOLE(NO_RECORD_THERE), 2, CK_BAD_TRAILER},
     {WHOLE(DESK), WHOLE(BENCH), 0, CK_NO_ROOM},
     {WHOLE(BENCH), WHOLE(DESK), 0, CK_NO_ROOM},
+    {WHOLE(EARLIER_DESK), WHOLE(BENCH), 0, CK_NO_ROOM},
     {WHOLE(BENCH), WHOLE(NONE), 0, CK_NO_ROOM},
 };
 
@@ -212,7 +230,7 @@ static void files_that_overlap(void) {
     static uint8_t two[sizeof DESK];
     int64_t *to = target(0);
     memcpy(two, DESK, sizeof DESK);
-    lent_file whole = lend_file(&first_region, two, sizeof two), end = {whole.at + 18, whole.length - 18};
+    lent_file whole = lend_file(&first_region, two, sizeof two), end = {whole.at + CK_RECORD_BYTES, whole.length - CK_RECORD_BYTES};
     expect_outcome(compare(whole, whole, to, 0), 0, CK_ACCEPTED, "one file");
     expect_outcome(compare(whole, end, to, 0), 2, CK_BAD_TRAILER, "a file and its end");
     expect_outcome(compare(end, whole, to, 0), 1, CK_BAD_TRAILER, "the end of a file and the file");

@@ -5,7 +5,7 @@
 #include "guarded.h"
 #include "lines.h"
 
-enum { MOST_BYTES = 1179648 }; /* the most that a line of the vectors asks for */
+enum { MOST_BYTES = 1310720 }; /* the most that a line of the vectors asks for */
 
 /* What is lent of a file. */
 typedef struct lent_file {

@@ -12,10 +12,16 @@
 
 #include <inttypes.h>
 
-SAME_LAYOUT(sizeof(ck_record) == 20);
+SAME_LAYOUT(sizeof(ck_record) == 24);
+SAME_LAYOUT(offsetof(ck_record, v) == 4);
 SAME_LAYOUT(offsetof(ck_record, place) == 8);
-SAME_LAYOUT(offsetof(ck_record, duv) == 14);
-SAME_LAYOUT(offsetof(ck_record, class_index) == 17);
+SAME_LAYOUT(offsetof(ck_record, low) == 10);
+SAME_LAYOUT(offsetof(ck_record, high) == 12);
+SAME_LAYOUT(offsetof(ck_record, duv) == 16);
+SAME_LAYOUT(offsetof(ck_record, steps) == 20);
+SAME_LAYOUT(offsetof(ck_record, class_index) == 21);
+SAME_LAYOUT(CK_RECORD_BYTES == 20 && CK_EARLIER_RECORD_BYTES == 18 && CK_TRAILER_BYTES == 8);
+SAME_LAYOUT(CK_MOST_WRITTEN == 3200 && CK_MOST_RECORDS == 3600 && CK_LARGEST_FILE == 64808);
 SAME_LAYOUT(sizeof(ck_done) == 16);
 SAME_LAYOUT(offsetof(ck_done, refusal) == 8);
 
@@ -64,13 +70,13 @@ static ck_done write_held(const held *h, uint8_t *to, size_t room) {
     const void *const *c = h->list.at;
     const size_t *n = h->list.counts;
     return ck_write_records((const uint32_t *)c[U], n[U], (const uint32_t *)c[V], n[V], (const uint16_t *)c[PLACE], n[PLACE],
-                            (const uint16_t *)c[LOW], n[LOW], (const uint16_t *)c[HIGH], n[HIGH], (const int16_t *)c[DUV], n[DUV],
+                            (const uint16_t *)c[LOW], n[LOW], (const uint16_t *)c[HIGH], n[HIGH], (const int32_t *)c[DUV], n[DUV],
                             (const uint8_t *)c[STEPS], n[STEPS], (const uint8_t *)c[CLASS], n[CLASS], to, room);
 }
 
 static ck_done read_into(const uint8_t *file, size_t length, void *const c[COLUMNS], const size_t n[COLUMNS]) {
     return ck_read_records(file, length, (uint32_t *)c[U], n[U], (uint32_t *)c[V], n[V], (uint16_t *)c[PLACE], n[PLACE],
-                           (uint16_t *)c[LOW], n[LOW], (uint16_t *)c[HIGH], n[HIGH], (int16_t *)c[DUV], n[DUV], (uint8_t *)c[STEPS],
+                           (uint16_t *)c[LOW], n[LOW], (uint16_t *)c[HIGH], n[HIGH], (int32_t *)c[DUV], n[DUV], (uint8_t *)c[STEPS],
                            n[STEPS], (uint8_t *)c[CLASS], n[CLASS]);
 }
 
@@ -92,7 +98,7 @@ static void form_line(const held *h, char *shown) {
 
 static void record_line(const held *h, char *shown) {
     ck_record r = ck_record_at(h->file.at, h->file.length, next_size());
-    sprintf(shown, "%" PRIu32 " %" PRIu32 " %u %u %u %d %u %u\n", r.u, r.v, r.place, r.low, r.high, r.duv, r.steps, r.class_index);
+    sprintf(shown, "%" PRIu32 " %" PRIu32 " %u %u %u %" PRId32 " %u %u\n", r.u, r.v, r.place, r.low, r.high, r.duv, r.steps, r.class_index);
 }
 
 static void read_line(const held *h, char *shown, const char *line) {
@@ -154,19 +160,27 @@ static void expect(ck_done found, uint8_t refusal, size_t count, const char *wha
     if (found.refusal != refusal || found.count != count) fail(what, "another outcome");
 }
 
+static void expect_record(ck_record found, ck_record r, const char *what) {
+    if (found.u != r.u || found.v != r.v || found.place != r.place || found.low != r.low || found.high != r.high || found.duv != r.duv ||
+        found.steps != r.steps || found.class_index != r.class_index)
+        fail(what, "another record");
+}
+
+static const ck_record NO_RECORD = {0, 0, 0, 0, 0, 0, 0, 0};
+
 /* NULL with a count of 0: for everything, and for each column alone, which makes the list one of no records. */
 static void without_a_list(void) {
     static const uint32_t numbers[1] = {1};
-    static const uint8_t empty[] = {18, 0, 0, 0, 0, 0, 0, 0};
+    static const uint8_t empty[] = {20, 0, 0, 0, 0, 0, 0, 0}, earlier[] = {18, 0, 0, 0, 0, 0, 0, 0};
     held none = {{{NULL}, {0}}, {NULL, 0}};
     void *const no_columns[COLUMNS] = {NULL};
     uint8_t *to = (uint8_t *)target(&target_file_region, 1, 8);
     expect(write_held(&none, NULL, 0), CK_NO_ROOM, 0, "NULL for everything");
     expect(read_into(NULL, 0, no_columns, none.list.counts), CK_NO_TRAILER, 0, "NULL for everything");
     expect(read_into(empty, sizeof empty, no_columns, none.list.counts), CK_ACCEPTED, 0, "no records into NULL");
+    expect(read_into(earlier, sizeof earlier, no_columns, none.list.counts), CK_ACCEPTED, 0, "no records of 18 bytes into NULL");
     expect(ck_check_file(NULL, 0), CK_NO_TRAILER, 0, "NULL for the file");
-    ck_record at = ck_record_at(NULL, 0, 0);
-    if (at.u || at.v || at.place || at.low || at.high || at.duv || at.steps || at.class_index) fail("NULL for the file", "another record");
+    expect_record(ck_record_at(NULL, 0, 0), NO_RECORD, "NULL for the file");
     for (int k = 0; k <= COLUMNS; k++) {
         held most = none;
         for (int j = 0; j < COLUMNS; j++)
@@ -181,15 +195,55 @@ static void without_a_list(void) {
 static void columns_that_are_one(void) {
     static const uint32_t wide[] = {0x01020304, 0xa0b0c0d0};
     static const uint16_t middle[] = {0x0506, 0xe0f0};
-    static const int16_t duv[] = {-2, 0x0708};
+    static const int32_t duv[] = {-2, 0x0b0a0807};
     static const uint8_t narrow[] = {9, 255};
-    static const uint8_t expected[] = {4, 3, 2, 1, 4, 3, 2, 1, 6, 5, 6, 5, 6, 5, 0xfe, 0xff, 9, 9,
-                                       0xd0, 0xc0, 0xb0, 0xa0, 0xd0, 0xc0, 0xb0, 0xa0, 0xf0, 0xe0, 0xf0, 0xe0, 0xf0, 0xe0, 8, 7, 255, 255,
-                                       18, 0, 2, 0, 36, 0, 0, 0};
+    static const uint8_t expected[] = {4, 3, 2, 1, 4, 3, 2, 1, 6, 5, 6, 5, 6, 5, 0xfe, 0xff, 0xff, 0xff, 9, 9,
+                                       0xd0, 0xc0, 0xb0, 0xa0, 0xd0, 0xc0, 0xb0, 0xa0, 0xf0, 0xe0, 0xf0, 0xe0, 0xf0, 0xe0, 7, 8, 10, 11, 255, 255,
+                                       20, 0, 2, 0, 40, 0, 0, 0};
     held one = {{{wide, wide, middle, middle, middle, duv, narrow, narrow}, {2, 2, 2, 2, 2, 2, 2, 2}}, {NULL, 0}};
     uint8_t *to = (uint8_t *)target(&target_file_region, 1, sizeof expected);
     expect(write_held(&one, to, sizeof expected), CK_ACCEPTED, sizeof expected, "columns that are one");
     if (memcmp(to, expected, sizeof expected) != 0) fail("columns that are one", "another file");
+}
+
+/* Two records in bytes of both lengths, the second with the least Duv of 2 bytes; and one whose Duv no 2 bytes have. */
+static const ck_record TWO[] = {{219300, 327100, 23256, 20672, 25840, -2347, 0, 255}, {0x01020304, 0xfffefdfc, 5, 65535, 0, -32768, 14, 3}};
+static const uint8_t TWO_WRITTEN[] = {0xa4, 0x58, 3, 0, 0xbc, 0xfd, 4, 0, 0xd8, 0x5a, 0xc0, 0x50, 0xf0, 0x64, 0xd5, 0xf6, 0xff, 0xff, 0, 255,
+                                      4, 3, 2, 1, 0xfc, 0xfd, 0xfe, 0xff, 5, 0, 0xff, 0xff, 0, 0, 0, 0x80, 0xff, 0xff, 14, 3,
+                                      20, 0, 2, 0, 40, 0, 0, 0};
+static const uint8_t TWO_EARLIER[] = {0xa4, 0x58, 3, 0, 0xbc, 0xfd, 4, 0, 0xd8, 0x5a, 0xc0, 0x50, 0xf0, 0x64, 0xd5, 0xf6, 0, 255,
+                                      4, 3, 2, 1, 0xfc, 0xfd, 0xfe, 0xff, 5, 0, 0xff, 0xff, 0, 0, 0, 0x80, 14, 3,
+                                      18, 0, 2, 0, 36, 0, 0, 0};
+static const ck_record TINTED = {345070, 310530, 64600, 62016, 64600, -50000, 0, 0};
+static const uint8_t TINTED_WRITTEN[] = {0xee, 0x43, 5, 0, 2, 0xbd, 4, 0, 0x58, 0xfc, 0x40, 0xf2, 0x58, 0xfc, 0xb0, 0x3c, 0xff, 0xff, 0, 0,
+                                         20, 0, 1, 0, 20, 0, 0, 0};
+
+/* A file is read into columns of exact room, those are written again, and that is the file of the length that is written; each record is
+ * there by its number, and none beyond them or in a file that is a byte short. */
+static void worked_file(const uint8_t *bytes, size_t length, const ck_record *records, size_t count, const uint8_t *again, size_t size) {
+    void *to[COLUMNS];
+    size_t rooms[COLUMNS];
+    held h = {{{NULL}, {0}}, lend_file(&file_region, bytes, length)};
+    for (int k = 0; k < COLUMNS; k++) {
+        rooms[k] = h.list.counts[k] = count;
+        h.list.at[k] = to[k] = target(&target_regions[k], WIDTHS[k], count);
+    }
+    expect(read_into(h.file.at, length, to, rooms), CK_ACCEPTED, count, "a file worked out by hand");
+    uint8_t *written = (uint8_t *)target(&target_file_region, 1, size);
+    expect(write_held(&h, written, size - 1), CK_NO_ROOM, 0, "a byte too little");
+    expect(write_held(&h, written, size), CK_ACCEPTED, size, "what was read, written again");
+    if (memcmp(written, again, size) != 0) fail("what was read, written again", "another file");
+    for (size_t i = 0; i < count; i++) expect_record(ck_record_at(h.file.at, length, i), records[i], "a record of a file worked out by hand");
+    expect_record(ck_record_at(h.file.at, length, count), NO_RECORD, "a record beyond the last");
+    expect_record(ck_record_at(h.file.at, length, SIZE_MAX), NO_RECORD, "a record far beyond the last");
+    expect_record(ck_record_at(h.file.at, length - 1, 0), NO_RECORD, "a record of a file that is cut short");
+    expect_record(ck_record_at(h.file.at + 1, length - 1, 0), NO_RECORD, "a record of a file without its first byte");
+}
+
+static void worked_files(void) {
+    worked_file(TWO_WRITTEN, sizeof TWO_WRITTEN, TWO, 2, TWO_WRITTEN, sizeof TWO_WRITTEN);
+    worked_file(TWO_EARLIER, sizeof TWO_EARLIER, TWO, 2, TWO_WRITTEN, sizeof TWO_WRITTEN);
+    worked_file(TINTED_WRITTEN, sizeof TINTED_WRITTEN, &TINTED, 1, TINTED_WRITTEN, sizeof TINTED_WRITTEN);
 }
 
 int main(int argc, char **argv) {
@@ -200,6 +254,7 @@ int main(int argc, char **argv) {
     make_regions();
     without_a_list();
     columns_that_are_one();
+    worked_files();
     run_vectors(argv[1], argv[2]);
     printf("record_test: %ld files and %ld columns held; %ld written, %ld read, %ld forms and %ld records, %ld failures\n",
            counts[FILE_LINE], counts[COLUMN_LINE], counts[WRITE_LINE], counts[READ_LINE], counts[FORM_LINE], counts[RECORD_LINE], failures);
