@@ -6,16 +6,14 @@
 #include <stdio.h>
 #include "cradlekeel.h"
 
-enum { LARGEST_FILE = CK_MOST_RECORDS * CK_RECORD_BYTES + CK_TRAILER_BYTES };
-
 /* One array for each field, as the library takes them. */
 static struct {
     uint32_t u[CK_MOST_RECORDS], v[CK_MOST_RECORDS];
     uint16_t place[CK_MOST_RECORDS], low[CK_MOST_RECORDS], high[CK_MOST_RECORDS];
-    int16_t duv[CK_MOST_RECORDS];
+    int32_t duv[CK_MOST_RECORDS];
     uint8_t steps[CK_MOST_RECORDS], class_index[CK_MOST_RECORDS];
 } r;
-static uint8_t file[LARGEST_FILE + 1]; /* with room for a byte too many, which shows that a file is too long */
+static uint8_t file[CK_LARGEST_FILE + 1]; /* with room for a byte too many, which shows that a file is too long */
 
 /* Loads the board from a file; 0 where that fails, and then it has said why. */
 static int load(const char *path, ck_board *board)

@@ -7,24 +7,23 @@
 #include <stdio.h>
 #include "cradlekeel.h"
 
-enum { LARGEST_FILE = CK_MOST_RECORDS * CK_RECORD_BYTES + CK_TRAILER_BYTES };
 static const char *const fields[] = {"u", "v", "place", "low", "high", "duv", "steps", "class"}; /* by CK_FIELD_U and so on */
 
-static uint8_t first[LARGEST_FILE + 1], second[LARGEST_FILE + 1]; /* with room for a byte too many, which shows that a file is too long */
+static uint8_t first[CK_LARGEST_FILE + 1], second[CK_LARGEST_FILE + 1]; /* with room for a byte too many, which shows that a file is too long */
 static int64_t list[CK_MOST_DIFFERENCE_NUMBERS];
 
 /* Reads a file; 0 where that fails, and then it has said why. */
 static int read_file(const char *path, uint8_t *file, size_t *length)
 {
     FILE *from = fopen(path, "rb");
-    *length = from ? fread(file, 1, LARGEST_FILE + 1, from) : 0;
+    *length = from ? fread(file, 1, CK_LARGEST_FILE + 1, from) : 0;
     if (!from || ferror(from)) {
         perror(path);
         return 0;
     }
     fclose(from);
-    if (*length > LARGEST_FILE) fprintf(stderr, "compare: %s: longer than any record file\n", path);
-    return *length <= LARGEST_FILE;
+    if (*length > CK_LARGEST_FILE) fprintf(stderr, "compare: %s: longer than any record file\n", path);
+    return *length <= CK_LARGEST_FILE;
 }
 
 static void print_difference(const int64_t *numbers, char **paths)

@@ -7,12 +7,12 @@
 #include <string.h>
 #include "cradlekeel.h"
 
-enum { LAMPS = 3, LARGEST_FILE = CK_MOST_RECORDS * CK_RECORD_BYTES + CK_TRAILER_BYTES };
+enum { LAMPS = 3 };
 static const uint32_t lamps[LAMPS][2] = {{255910, 349510}, {219300, 327100}, {183000, 276000}}; /* CIE 1960 u and v in millionths */
 static const uint32_t edges[] = {1600, 2500, 3500, 5000, 20001}; /* class 0 is 1600 K to under 2500 K, and so on */
 
 static const char *const reasons[] = {
-    [CK_TOO_MANY_RECORDS] = "more than 3,600 records",
+    [CK_TOO_MANY_RECORDS] = "more than 3,200 records, or 3,600 of 18 bytes",
     [CK_NO_ROOM] = "no room for the file or its records",
     [CK_NO_TRAILER] = "the file is shorter than 8 bytes",
     [CK_BAD_RECORD_LENGTH] = "no record file, or cut short or added to",
@@ -23,10 +23,10 @@ static const char *const reasons[] = {
 static struct {
     uint32_t u[CK_MOST_RECORDS], v[CK_MOST_RECORDS];
     uint16_t place[CK_MOST_RECORDS], low[CK_MOST_RECORDS], high[CK_MOST_RECORDS];
-    int16_t duv[CK_MOST_RECORDS];
+    int32_t duv[CK_MOST_RECORDS];
     uint8_t steps[CK_MOST_RECORDS], class_index[CK_MOST_RECORDS];
 } r;
-static uint8_t file[LARGEST_FILE + 1]; /* with room for a byte too many, which shows that a file is too long */
+static uint8_t file[CK_LARGEST_FILE + 1]; /* with room for a byte too many, which shows that a file is too long */
 
 static int refused(const char *path, ck_done done)
 {

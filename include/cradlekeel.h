@@ -47,7 +47,7 @@ enum {
                                  a u or v in millionths over 4,000,000 */
     CK_TOO_DARK = 4,          /* tristimulus values: Y, rounded to 0.00001, is under 1; spectral samples: Y is 0 once X, Y and
                                  Z are divided as ck_read_samples says */
-    CK_TOO_FAR = 5,           /* more than 0.030 in (u, v) from each of the 24 stored points of the blackbody locus */
+    CK_TOO_FAR = 5,           /* more than 0.05 in (u, v) from each of the 24 stored points of the blackbody locus */
     CK_TOO_HOT = 6,           /* beyond the locus's 20,000 K end */
     CK_TOO_COOL = 7           /* beyond the locus's 1600 K end */
 };
@@ -57,10 +57,11 @@ enum {
  * file. */
 enum {
     CK_NO_TRAILER = 13,        /* the file has fewer than 8 bytes */
-    CK_BAD_RECORD_LENGTH = 14, /* its trailer has another record length than 18 */
-    CK_BAD_TRAILER = 15,       /* the trailer's distance is not 18 for each record of its count, or the file has more or fewer
-                                  bytes than these records and the trailer */
-    CK_TOO_MANY_RECORDS = 11,  /* there are more than 3,600 records */
+    CK_BAD_RECORD_LENGTH = 14, /* the record length in its trailer is neither 18 nor 20 */
+    CK_BAD_TRAILER = 15,       /* the trailer's distance is not its record length for each record of its count, or the file has more
+                                  or fewer bytes than these records and the trailer */
+    CK_TOO_MANY_RECORDS = 11,  /* there are more than 3,200 records to write, or in a file whose records have 20 bytes, or more than
+                                  3,600 in one whose records have 18 */
     CK_NO_ROOM = 12            /* a target is too small; one that is just large enough is taken */
 };
 
@@ -140,20 +141,30 @@ ck_answer ck_read_samples(const uint32_t *samples, size_t sample_count, const ui
 
 /* --- Record files --------------------------------------------------------------------------------------------------------
  *
- * A record file keeps readings with their answers: 18 bytes for each record, its fields in the order of ck_record, and then a
+ * A record file keeps readings with their answers: 20 bytes for each record, its fields in the order of ck_record, and then a
  * trailer of 8 bytes: the record length (16 bits), the count of records (16 bits), and the distance (32 bits), which is how many
  * bytes before the trailer the first record begins. All numbers are little-endian; docs/FILES.md shows a file byte by byte.
+ * Files from before, with records of 18 bytes, have Duv in 2 bytes instead of 4. They are no longer written, and every function that
+ * is given a file takes both: its trailer tells which it is. While records had 18 bytes Duv had 16 bits here too: a program from then
+ * must have int32_t where it has int16_t (a C compiler may only warn) and be compiled anew, or it reads and writes wrong numbers.
  * A record may hold any number that fits its field: these functions check the form of a file, not what its records say. They
  * work on memory and do no input or output: a `file` here is the bytes of one, which the caller reads and writes.
  * examples/records.c is a whole program. */
 
-enum { CK_RECORD_BYTES = 18, CK_TRAILER_BYTES = 8, CK_MOST_RECORDS = 3600 };
+enum {
+    CK_RECORD_BYTES = 20,         /* of each record that is written */
+    CK_EARLIER_RECORD_BYTES = 18, /* of each record in a file from before */
+    CK_TRAILER_BYTES = 8,
+    CK_MOST_WRITTEN = 3200, /* records in a file that is written, and in one that is read with records of 20 bytes */
+    CK_MOST_RECORDS = 3600, /* records in any file that is read; so many have 18 bytes each */
+    CK_LARGEST_FILE = CK_MOST_RECORDS * CK_EARLIER_RECORD_BYTES + CK_TRAILER_BYTES /* bytes of any file that is read: 64,808 */
+};
 
 /* One record; in the file it has no padding, as this struct may. */
 typedef struct ck_record {
-    uint32_t u, v;              /* the reading, in millionths */
-    uint16_t place, low, high;  /* these and the rest as in ck_whole */
-    int16_t duv;
+    uint32_t u, v;             /* the reading, in millionths */
+    uint16_t place, low, high; /* these and the rest as in ck_whole */
+    int32_t duv;
     uint8_t steps, class_index;
 } ck_record;
 
@@ -164,29 +175,28 @@ typedef struct ck_done {
 } ck_done;
 
 /* Writes records to `file`. Field by field they stand in eight columns, and there are as many as the shortest column has numbers.
- * `count` is how many bytes were written: 18 for each record, and 8. What `file` holds beyond them, up to `room`, stays.
+ * `count` is how many bytes were written: 20 for each record, and 8. What `file` holds beyond them, up to `room`, stays.
  * Refusals, in this order: CK_TOO_MANY_RECORDS, CK_NO_ROOM (`room` is less than the bytes to write). */
 ck_done ck_write_records(const uint32_t *u, size_t u_count, const uint32_t *v, size_t v_count, const uint16_t *place,
                          size_t place_count, const uint16_t *low, size_t low_count, const uint16_t *high, size_t high_count,
-                         const int16_t *duv, size_t duv_count, const uint8_t *steps, size_t steps_count,
+                         const int32_t *duv, size_t duv_count, const uint8_t *steps, size_t steps_count,
                          const uint8_t *class_index, size_t class_count, uint8_t *file, size_t room);
 
-/* Reads the records of `file` into eight columns, which have room for as many as the shortest of them has numbers. `count` is how
- * many were read. What a column holds beyond them stays.
+/* Reads the records of `file`, of either length, into eight columns, which have room for as many as the shortest of them has numbers.
+ * `count` is how many were read. What a column holds beyond them stays.
  * Refusals, in this order: CK_NO_TRAILER, CK_BAD_RECORD_LENGTH, CK_BAD_TRAILER, CK_TOO_MANY_RECORDS, CK_NO_ROOM (a column has
  * fewer numbers than the file has records). */
 ck_done ck_read_records(const uint8_t *file, size_t length, uint32_t *u, size_t u_count, uint32_t *v, size_t v_count,
                         uint16_t *place, size_t place_count, uint16_t *low, size_t low_count, uint16_t *high,
-                        size_t high_count, int16_t *duv, size_t duv_count, uint8_t *steps, size_t steps_count,
+                        size_t high_count, int32_t *duv, size_t duv_count, uint8_t *steps, size_t steps_count,
                         uint8_t *class_index, size_t class_count);
 
 /* Whether the bytes are a record file, and `count`, how many records it has.
  * Refusals, in this order: CK_NO_TRAILER, CK_BAD_RECORD_LENGTH, CK_BAD_TRAILER, CK_TOO_MANY_RECORDS. */
 ck_done ck_check_file(const uint8_t *file, size_t length);
 
-/* The record `index`, counted from 0, of the bytes, whatever follows the records; nothing of their form is checked. All zeros
- * where the bytes end before the record does: for an `index` of length / 18 or more. Of a file that ck_check_file accepts, the
- * records 0 to count - 1 are there and no other. */
+/* The record `index`, counted from 0, of a file, by the file's own record length. All zeros where ck_check_file refuses the file, and
+ * for an `index` of its count or more; a record may be all zeros too, so it is the count that tells. */
 ck_record ck_record_at(const uint8_t *file, size_t length, size_t index);
 
 /* A record where `kept` is 1; all zeros where it is 0. */
@@ -196,17 +206,16 @@ typedef struct ck_kept {
 } ck_kept;
 
 /* The record of a reading u, v in millionths and its answer, the member `whole` where that is a ck_answer. `kept` is 0 where the
- * answer is a refusal, or has a place, low or high over 65,535 or a Duv over 32,767 either side of 0; no answer of this library
- * has one. */
+ * answer is a refusal, or has a place, low or high over 65,535, which no answer of this library has. */
 ck_kept ck_record_of(uint32_t u, uint32_t v, ck_whole answer);
 
 /* --- The differences of two record files -----------------------------------------------------------------------------------
  *
- * Record 0 of one file is compared with record 0 of the other and so on, field by field, by the numbers that they hold. A difference is
- * four numbers: the record's, counted from 0, the field's, what the first file has there, and what the second has. Differences come in
- * the order of records, and of fields within a record; after all of them comes one for each record that only the longer file has: the
- * record's number, CK_ONLY_FIRST or CK_ONLY_SECOND, and two zeros. Each is listed once, and nothing else is: where none is listed both
- * files have the same records. examples/compare.c is a whole program. */
+ * Record 0 of one file is compared with record 0 of the other and so on, field by field, by the numbers that they hold, whichever record
+ * length each file has. A difference is four numbers: the record's, counted from 0, the field's, what the first file has there, and what
+ * the second has. Differences come in the order of records, and of fields within a record; after all of them comes one for each record
+ * that only one file has: the record's number, CK_ONLY_FIRST or CK_ONLY_SECOND, and two zeros. Each is listed once, and nothing else is:
+ * where none is listed both files have the same records. examples/compare.c is a whole program. */
 
 /* The second number of a difference: a field, in the order of ck_record, or the file that has the record. */
 enum {
@@ -301,7 +310,7 @@ typedef struct ck_board_answer {
  * Refusal: CK_TOO_MANY_LOTS, and the board handed back is the one of no lots. */
 ck_board_answer ck_board_load(const uint32_t *u, size_t u_count, const uint32_t *v, size_t v_count, const uint16_t *place,
                               size_t place_count, const uint16_t *low, size_t low_count, const uint16_t *high, size_t high_count,
-                              const int16_t *duv, size_t duv_count, const uint8_t *steps, size_t steps_count,
+                              const int32_t *duv, size_t duv_count, const uint8_t *steps, size_t steps_count,
                               const uint8_t *class_index, size_t class_count);
 
 /* The lot at a place. The board handed back is the one that was handed over.

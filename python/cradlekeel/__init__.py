@@ -17,7 +17,7 @@ exact. `read_micro` and `read_samples` take whole numbers and round nothing; `re
 values, which is tested and not proved.
 
 `to_bytes` and `read_records` make a file of records, readings with their answers, and read it, in memory: they take and give its
-bytes and do no input or output.
+bytes and do no input or output. A file from before, whose records have 18 bytes instead of 20, is read as well.
 
 >>> record = cradlekeel.Record.of(219300, 327100, cradlekeel.read_micro(219300, 327100, steps=2))
 >>> cradlekeel.read_records(cradlekeel.to_bytes([record])) == [record]
@@ -47,12 +47,13 @@ from ._library import LibraryMissing
 from .boards import Board, Lot, Told
 from .differences import ONLY_FIRST, ONLY_SECOND, Difference, FileRefusal, compare_files
 from .readings import EDGES, REASONS, STEPS, Answer, Refusal, read_micro, read_samples, read_uv, read_uv_prime, read_xy, read_xyz
-from .records import Record, check_file, read_records, record_at, to_bytes, write_records
+from .records import MOST_RECORDS, MOST_WRITTEN, Record, check_file, read_records, record_at, to_bytes, write_records
 from .spectra import BadSpectrum, BelowZero, cie_1931, read_spectrum
 
-__all__ = ["EDGES", "ONLY_FIRST", "ONLY_SECOND", "REASONS", "STEPS", "Answer", "BadSpectrum", "BelowZero", "Board", "Difference", "FileRefusal",
-           "LibraryMissing", "Lot", "Record", "Refusal", "Told", "check_file", "cie_1931", "compare_files", "read_micro", "read_records",
-           "read_samples", "read_spectrum", "read_uv", "read_uv_prime", "read_xy", "read_xyz", "record_at", "to_bytes", "write_records"]
+__all__ = ["EDGES", "MOST_RECORDS", "MOST_WRITTEN", "ONLY_FIRST", "ONLY_SECOND", "REASONS", "STEPS", "Answer", "BadSpectrum", "BelowZero",
+           "Board", "Difference", "FileRefusal", "LibraryMissing", "Lot", "Record", "Refusal", "Told", "check_file", "cie_1931", "compare_files",
+           "read_micro", "read_records", "read_samples", "read_spectrum", "read_uv", "read_uv_prime", "read_xy", "read_xyz", "record_at",
+           "to_bytes", "write_records"]
 
 for _public in (Answer, BadSpectrum, BelowZero, Board, Difference, FileRefusal, LibraryMissing, Lot, Record, Refusal, Told):
     _public.__module__ = __name__  # a traceback names them as their users do, as in cradlekeel.Refusal

@@ -9,10 +9,11 @@ from pathlib import Path
 
 ROOT = Path(__file__).resolve().parents[2]
 _BUILT = "target/lib/libcradlekeel.so"
+RECORD_BYTES = 20  # of each record that is written
 
 
 class LibraryMissing(OSError):
-    """The library is not built, or is older than the function that was called."""
+    """The library is not built, or is older than this package."""
 
 
 class WholeAnswer(ctypes.Structure):
@@ -32,7 +33,7 @@ class StoredRecord(ctypes.Structure):
     """`ck_record` of include/cradlekeel.h."""
 
     _fields_ = [("u", ctypes.c_uint32), ("v", ctypes.c_uint32), ("place", ctypes.c_uint16), ("low", ctypes.c_uint16),
-                ("high", ctypes.c_uint16), ("duv", ctypes.c_int16), ("steps", ctypes.c_uint8), ("class_index", ctypes.c_uint8)]
+                ("high", ctypes.c_uint16), ("duv", ctypes.c_int32), ("steps", ctypes.c_uint8), ("class_index", ctypes.c_uint8)]
 
 
 class Done(ctypes.Structure):
@@ -115,14 +116,34 @@ def _make_command():
 
 @functools.lru_cache(maxsize=None)
 def c_function(name):
-    """The C function `name`, once it knows what it takes and returns."""
-    library = _library()
+    """The C function `name`, once it knows what it takes and returns. None is taken from a library whose records have another length: it
+    has another limit of refusal 5 too, and would misread records without a word."""
+    function = _typed(name)
+    if (length := _record_length()) != RECORD_BYTES:
+        raise _too_old(f"writes records of {length} bytes")
+    return function
+
+
+def _typed(name):
     try:
-        function = getattr(library, name)
+        function = getattr(_library(), name)
     except AttributeError:
-        raise LibraryMissing(f"{library._name} has no function {name}: it is older than this package. Run: {_make_command()}") from None
+        raise _too_old(f"has no function {name}") from None
     function.argtypes, function.restype = _FUNCTIONS[name]
     return function
+
+
+@functools.lru_cache(maxsize=None)
+def _record_length():
+    """How long the records are that the library writes: the trailer's first number, in a file of no records."""
+    target = (ctypes.c_uint8 * 8)()
+    _typed("ck_write_records")(*len(StoredRecord._fields_) * (None, 0), target, len(target))
+    return target[0]
+
+
+def _too_old(what):
+    named = "CRADLEKEEL_LIBRARY names it: name another, or none. To build one, run" if os.environ.get("CRADLEKEEL_LIBRARY") else "Run"
+    return LibraryMissing(f"{_library()._name} {what}: it is older than this package. {named}: {_make_command()}")
 
 
 def call(name, reading, edges, steps):

@@ -20,10 +20,10 @@ class FileRefusal(Refusal):
     """One of two files cannot be read: `which` is 1 for the first and 2 for the second, `number` and `reason` are those of its refusal.
 
     >>> try:
-    ...     compare_files(bytes(18), b"")
+    ...     compare_files(bytes(20), b"")
     ... except FileRefusal as refusal:
     ...     print(refusal.which, refusal.number, refusal)
-    1 14 the first file: refusal 14: the file is no record file, or was cut short or added to: its last 8 bytes do not begin with the record length 18
+    1 14 the first file: refusal 14: the file is no record file, or was cut short or added to: its last 8 bytes do not begin with a record length of 18 or 20
     """
 
     def __init__(self, which, number):
@@ -70,8 +70,8 @@ for _name, _text in {
 
 def compare_files(first, second, room=None):
     """The differences of two files, each given by its bytes or any other bytes-like object, in a list of `Difference`: one for every
-    field whose numbers differ, by record and then by field, and after them one for each record that only the longer file has, whose
-    field is `ONLY_FIRST`, 8, or `ONLY_SECOND`, 9. An empty list means that their records are the same.
+    field whose numbers differ, by record and then by field, and after them one for each record that only one file has, whose field is
+    `ONLY_FIRST`, 8, or `ONLY_SECOND`, 9. An empty list means that their records are the same, be they of 18 bytes or of 20.
 
     >>> from cradlekeel import Record, compare_files, to_bytes
     >>> record = Record(219300, 327100, 23112, 21892, 23866, -2331, 2, 2)
@@ -91,7 +91,7 @@ def compare_files(first, second, room=None):
     >>> compare_files(bench, desk[:20])
     Traceback (most recent call last):
         ...
-    cradlekeel.FileRefusal: the second file: refusal 14: the file is no record file, or was cut short or added to: its last 8 bytes do not begin with the record length 18
+    cradlekeel.FileRefusal: the second file: refusal 14: the file is no record file, or was cut short or added to: its last 8 bytes do not begin with a record length of 18 or 20
     """
     room = MOST_DIFFERENCES if room is None else min(whole("room", room, ctypes.c_size_t), MOST_DIFFERENCES)
     numbers = len(Difference._fields) * room

@@ -15,16 +15,16 @@ REASONS = {
     2: "a number of the reading is an infinity or a NaN",
     3: "a number of the reading is outside its range",
     4: "the tristimulus value Y is too small: under 1, or 0 where it comes from spectral samples",
-    5: "the reading is more than 0.030 from every stored point of the blackbody locus",
+    5: "the reading is more than 0.05 from every stored point of the blackbody locus",
     6: "the reading lies beyond the 20,000 K end of the blackbody locus",
     7: "the reading lies beyond the 1600 K end of the blackbody locus",
     9: "the samples, x_bar, y_bar and z_bar must be equally long, from 1 to 471 numbers each",
     10: "a sample is over 16,777,215, or a number of x_bar, y_bar or z_bar is over 4,000,000",
-    11: "there are more than 3,600 records, the most that a file holds",
+    11: "there are more than 3,200 records, the most that a file holds, or more than 3,600 in one from before, with records of 18 bytes",
     12: "the room is too small for the file, its records or the differences",
     13: "the file is too short to be a record file: it has fewer than 8 bytes",
-    14: "the file is no record file, or was cut short or added to: its last 8 bytes do not begin with the record length 18",
-    15: "the file was cut short, damaged or joined to another: its length, or the distance in its last 8 bytes, does not fit its count of records",
+    14: "the file is no record file, or was cut short or added to: its last 8 bytes do not begin with a record length of 18 or 20",
+    15: "the file was cut short, damaged or joined to another: its length, or the distance in its last 8 bytes, does not fit the count and length of its records",
     16: "there are more than 64 records, the most that a board has places for",
     17: "the board has no lot at that place; places are counted from 0",
     18: "the stamp is not the lot's current one, so nothing is stored: read the lot again, and then decide",
@@ -51,7 +51,7 @@ class Refusal(ValueError):
     >>> read_micro(0, 0)
     Traceback (most recent call last):
         ...
-    cradlekeel.Refusal: refusal 5: the reading is more than 0.030 from every stored point of the blackbody locus
+    cradlekeel.Refusal: refusal 5: the reading is more than 0.05 from every stored point of the blackbody locus
     """
 
     def __init__(self, number):

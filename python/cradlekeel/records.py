@@ -8,11 +8,12 @@ import operator
 from array import array
 from typing import NamedTuple
 
-from ._library import StoredRecord, WholeAnswer, c_function, u32, whole
+from ._library import RECORD_BYTES, StoredRecord, WholeAnswer, c_function, u32, whole
 from .readings import KELVIN_PLACES, NO_CLASS, Refusal
 
-MOST_RECORDS = 3600
-RECORD_BYTES, TRAILER_BYTES = 18, 8
+EARLIER_RECORD_BYTES, TRAILER_BYTES = 18, 8  # of each record in a file from before, and of any file's trailer
+MOST_WRITTEN = 3200  # records in a file that is written, and in one that is read with records of 20 bytes
+MOST_RECORDS = 3600  # in any file that is read: so many have 18 bytes each
 _FIELDS = StoredRecord._fields_  # the name and the type in C of each
 
 
@@ -60,28 +61,28 @@ class Record(NamedTuple):
 for _name, _text in {
         "u": "CIE 1960 u of the reading in millionths; 32 bits", "v": "CIE 1960 v of the reading in millionths; 32 bits",
         "place": "the position on the locus in units of 25/2584 mired; 16 bits", "low": "the hottest end of the range, as a position; 16 bits",
-        "high": "the coolest end of the range, as a position; 16 bits", "duv": "Duv in millionths; 16 bits, signed",
+        "high": "the coolest end of the range, as a position; 16 bits", "duv": "Duv in millionths; 32 bits, signed",
         "steps": "the steps of the search; 8 bits", "class_index": "the class, counted from 0, or 255 for none; 8 bits"}.items():
     getattr(Record, _name).__doc__ = _text  # what help(Record) shows
 
 
 def write_records(records, target):
-    """Writes a file of the records to the front of a bytearray and returns how many bytes that were, 18 for each record and 8. The
+    """Writes a file of the records to the front of a bytearray and returns how many bytes that were, 20 for each record and 8. The
     rest of the bytearray keeps what it held, and all of it where the records are refused.
 
     >>> target = bytearray(b"what it held")
     >>> write_records([], target)
     8
     >>> target
-    bytearray(b'\\x12\\x00\\x00\\x00\\x00\\x00\\x00\\x00held')
+    bytearray(b'\\x14\\x00\\x00\\x00\\x00\\x00\\x00\\x00held')
     >>> write_records([Record(219300, 327100, 23112, 21892, 23866, -2331, 2, 2)], target)
     Traceback (most recent call last):
         ...
     cradlekeel.Refusal: refusal 12: the room is too small for the file, its records or the differences
-    >>> write_records([Record(219300, 327100, 23112, 21892, 23866, -40000, 2, 2)], target)
+    >>> write_records([Record(219300, 327100, 65536, 21892, 23866, -2331, 2, 2)], target)
     Traceback (most recent call last):
         ...
-    ValueError: records[0].duv is -40000, which does not fit a signed whole number of 16 bits
+    ValueError: records[0].place is 65536, which does not fit an unsigned whole number of 16 bits
     """
     if not isinstance(target, bytearray):
         raise TypeError(f"the target must be a bytearray, not {type(target).__name__}")
@@ -90,10 +91,10 @@ def write_records(records, target):
 
 
 def to_bytes(records):
-    """A file of the records, at most 3,600.
+    """A file of the records, at most 3,200.
 
     >>> to_bytes([Record(219300, 327100, 23112, 21892, 23866, -2331, 2, 2)]).hex(" ", -2)
-    'a458 0300 bcfd 0400 485a 8455 3a5d e5f6 0202 1200 0100 1200 0000'
+    'a458 0300 bcfd 0400 485a 8455 3a5d e5f6 ffff 0202 1400 0100 1400 0000'
     """
     records = list(records)
     target = bytearray(len(records) * RECORD_BYTES + TRAILER_BYTES)
@@ -102,14 +103,17 @@ def to_bytes(records):
 
 
 def read_records(file, room=MOST_RECORDS):
-    """The records of a file, given by its bytes or any other bytes-like object; refused with 12 where they are more than `room`.
+    """The records of a file, given by its bytes or any other bytes-like object; refused with 12 where they are more than `room`. A file
+    from before, whose records have 18 bytes, with Duv in 2 of them instead of 4, is read too, and has up to 3,600.
 
+    >>> read_records(bytes.fromhex("a458 0300 bcfd 0400 485a 8455 3a5d e5f6 ffff 0202 1400 0100 1400 0000"))
+    [Record(u=219300, v=327100, place=23112, low=21892, high=23866, duv=-2331, steps=2, class_index=2)]
     >>> read_records(bytes.fromhex("a458 0300 bcfd 0400 485a 8455 3a5d e5f6 0202 1200 0100 1200 0000"))
     [Record(u=219300, v=327100, place=23112, low=21892, high=23866, duv=-2331, steps=2, class_index=2)]
     >>> read_records(b"u,v,steps\\n")
     Traceback (most recent call last):
         ...
-    cradlekeel.Refusal: refusal 14: the file is no record file, or was cut short or added to: its last 8 bytes do not begin with the record length 18
+    cradlekeel.Refusal: refusal 14: the file is no record file, or was cut short or added to: its last 8 bytes do not begin with a record length of 18 or 20
     >>> read_records("day.rec")
     Traceback (most recent call last):
         ...
@@ -135,17 +139,18 @@ def check_file(file):
 
 
 def record_at(file, index):
-    """The record `index`, counted from 0, of bytes that begin with records, whatever follows them; their form is not checked.
+    """The record `index`, counted from 0, of a file; refused as `read_records` refuses the file.
 
-    >>> record_at(bytes(18) + b"cut off", 0)
-    Record(u=0, v=0, place=0, low=0, high=0, duv=0, steps=0, class_index=0)
-    >>> record_at(bytes(18) + b"cut off", 1)
+    >>> file = to_bytes([Record(219300, 327100, 23112, 21892, 23866, -2331, 2, 2)])
+    >>> record_at(file, 0).duv
+    -2331
+    >>> record_at(file, 1)
     Traceback (most recent call last):
         ...
-    IndexError: the bytes have no whole record 1
+    IndexError: the file has no record 1
     """
-    if not 0 <= operator.index(index) < _view("a file", file).nbytes // RECORD_BYTES:
-        raise IndexError(f"the bytes have no whole record {index}")
+    if not 0 <= operator.index(index) < check_file(file):
+        raise IndexError(f"the file has no record {index}")
     return Record(*numbers_of(asked("ck_record_at", {"a file": file}, index)))
 
 

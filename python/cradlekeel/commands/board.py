@@ -38,8 +38,9 @@ Examples:
   echo list | cradlekeel board monday.rec | awk '$2 != "lots" && $12 == 2 { print $2 }'      (the places of class 2)
   cradlekeel show --kelvin monday.rec | awk '{ print NR - 1, $0 }'                           (each place with its temperature)
 
-FILE has at most 64 records; more are refused with 16, and docs/BOARD.md tells how to make several files of one. The first run of
-bin/cradlekeel board proves and builds the library (make lib, one to two minutes); later ones start at once.
+FILE has at most 64 records, of 20 bytes or, from before, of 18; more are refused with 16, and docs/BOARD.md tells how to make
+several files of one. The first run of bin/cradlekeel board proves and builds the library (make lib, one to two minutes); later ones
+start at once.
 
 Exit status: 0 every line was understood, a refusal being an answer; 1 a line was not understood, FILE could not be loaded,
 standard input not be read or standard output not be written, and a message on standard error says which; 2 wrong usage, or the

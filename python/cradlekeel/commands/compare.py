@@ -1,8 +1,8 @@
 """usage: cradlekeel compare [--plain] FIRST SECOND
 
 Prints where two record files, as cradlekeel save keeps them, differ: a line for each field in which they do, by record and then by
-field, with what FIRST has and what SECOND has; then a line for each record that only the longer file has; and then one line that
-sums up:
+field, with what FIRST has and what SECOND has; then a line for each record that only one of them has; and then one line that sums
+up:
 
   record 3: place 23112 | 23256 (4472.1 K | 4444.4 K)
   record 12: duv 340 | 352
@@ -10,14 +10,15 @@ sums up:
   record 14: only in SECOND
   2 records differ in 3 fields; 1 only in SECOND
 
-Where only the lengths differ, that line is as in "14 records are the same; 1 only in SECOND". Where nothing differs, it is all:
+Where only their counts differ, that line is as in "14 records are the same; 1 only in SECOND". Where nothing differs, it is all:
 
   no differences in 14 records
 
 Record 0 of FIRST, its first accepted line, is compared with record 0 of SECOND and so on, by their numbers u, v, place, low, high,
 duv, steps and class. u, v and duv are in units of 0.000001. place, low and high are positions on the blackbody locus, low the hot
 end of the range and high the cool one, and have the temperature in kelvin beside them, or - for a place of 0. A class of - is none.
-One of the files may be -, standard input. In these lines a name that has a control character is in quotes, with escapes.
+Either file may be from before, with records of 18 bytes instead of 20: where the numbers are the same, nothing differs. One of the
+files may be -, standard input. In these lines a name that has a control character is in quotes, with escapes.
 
   --plain       four numbers to a line and no other line: record, field, what FIRST has and what SECOND has; fields are 0 u, 1 v,
                 2 place, 3 low, 4 high, 5 duv, 6 steps and 7 class, of which 255 is none; a record that only one file has is

@@ -12,7 +12,7 @@ Examples:
   cradlekeel save --replace monday.rec < lines.txt > answers.txt
 
 FILE is written once all lines are answered, whole or not at all, by way of a temporary file .cradlekeel-.. in the same folder. It
-holds at most 3600 records: refusal 11 is said as soon as there are more, and none is kept; docs/FILES.md shows how to keep more
+holds at most 3200 records: refusal 11 is said as soon as there are more, and none is kept; docs/FILES.md shows how to keep more
 in several files. Where no line is accepted FILE is not written either. With --replace a link is followed, the file keeps its
 mode, and one that may not be written, or is no regular file, is left alone. The command says nothing where all went well;
 cradlekeel show FILE | wc -l counts what was kept.
@@ -20,7 +20,7 @@ cradlekeel show FILE | wc -l counts what was kept.
 The first run of bin/cradlekeel save proves and builds the program and the library (a few minutes); later ones start at once.
 
 Exit status: 0 every line is answered and FILE is written; 1 standard input could not be read, standard output or FILE not be
-written, FILE exists, no line was accepted, or more than 3600 were; 2 wrong usage, or the program or the library is missing;
+written, FILE exists, no line was accepted, or more than 3200 were; 2 wrong usage, or the program or the library is missing;
 141 the reader of the answers went away, as `head` does. With all but 0 FILE is as it was, unless the message says that it is
 written: what could not be printed is not kept.
 """
@@ -34,7 +34,7 @@ from threading import Thread
 from .. import Record, Refusal, to_bytes
 from .._library import ROOT
 from ..readings import NO_CLASS
-from ..records import MOST_RECORDS
+from ..records import MOST_WRITTEN
 from . import ANSWERED, BLOCK, FAILED, BadFile, Failed, WrongUsage, options_of, say, write_out
 from ._whole_file import check_place, write_whole
 
@@ -83,7 +83,7 @@ class Kept:
         u, v = line.split()[:2]
         *numbers, class_index = answer.removeprefix(ACCEPTED).split()
         self.records.append(Record(int(u), int(v), *map(int, numbers), NO_CLASS if class_index == b"-" else int(class_index)))
-        if len(self.records) > MOST_RECORDS:
+        if len(self.records) > MOST_WRITTEN:
             self.refuse()
 
     def refuse(self):

@@ -6,6 +6,7 @@ Prints the records of record files, as cradlekeel save keeps them, one to a line
 
 u, v and duv are in units of 0.000001. place, low and high are positions on the blackbody locus, and the temperature at a
 place is 103360000 / place kelvin. A class of - is none. A FILE of - is standard input. docs/FILES.md has the format.
+Files from before, with records of 18 bytes instead of 20, are shown too.
 
   --kelvin      the temperature at the place too, as a ninth column, in kelvin with one decimal; - where the place is 0
   -h, --help    this text
@@ -20,10 +21,11 @@ program may have been made with others. Only the form of a file is checked: what
 damage inside a record is not noticed. A file that cannot be read is named on standard error with the reason and, where it
 is refused, the number of its refusal, and the others are still shown:
 
-  refusal 13: the file is shorter than 8 bytes, 14: it does not tell at its end that a record has 18 bytes,
-  15: its length, or the distance at its end, does not fit its count of records, 11: it has more than 3600 records
+  refusal 13: the file is shorter than 8 bytes, 14: it does not tell at its end that a record has 18 or 20 bytes,
+  15: its length, or the distance at its end, does not fit the count and length of its records,
+  11: it has more than 3200 records, or more than 3600 of 18 bytes
 
-A missing file or a folder has no number, nor has what is over 1,179,638 bytes: no trailer can tell of so many records, and it
+A missing file or a folder has no number, nor has what is over 1,310,708 bytes: no trailer can tell of so many records, and it
 is not read to its end.
 
 The first run of bin/cradlekeel show proves and builds the library (make lib, one to two minutes); later ones start at once.
@@ -37,7 +39,7 @@ from ..readings import KELVIN_PLACES, NO_CLASS
 from ..records import RECORD_BYTES, TRAILER_BYTES
 from . import BadFile, WrongUsage, bytes_of, each_file, options_of, write_out
 
-LONGEST = 65_535 * RECORD_BYTES + TRAILER_BYTES  # bytes: a trailer can tell of no more records
+LONGEST = 65_535 * RECORD_BYTES + TRAILER_BYTES  # bytes: a trailer can tell of no more records, and they are never longer
 
 
 def run(words):
