@@ -12,7 +12,7 @@ enum { LOTS = CK_MOST_LOTS, HISTORIES = 300, HISTORY = 400, CALLS = 20000, ROUND
 typedef struct {
     uint32_t u[LOTS + 1], v[LOTS + 1];
     uint16_t place[LOTS + 1], low[LOTS + 1], high[LOTS + 1];
-    int16_t duv[LOTS + 1];
+    int32_t duv[LOTS + 1];
     uint8_t steps[LOTS + 1], class_index[LOTS + 1];
 } columns;
 
@@ -22,7 +22,7 @@ static void make_records(void) {
     for (size_t i = 0; i <= LOTS; i++) {
         given.u[i] = (uint32_t)below(1ull << 32), given.v[i] = (uint32_t)below(1ull << 32);
         given.place[i] = (uint16_t)below(65536), given.low[i] = (uint16_t)below(65536), given.high[i] = (uint16_t)below(65536);
-        given.duv[i] = (int16_t)((int)below(65536) - 32768);
+        given.duv[i] = (int32_t)(uint32_t)below(1ull << 32);
         given.steps[i] = (uint8_t)below(256), given.class_index[i] = (uint8_t)below(256);
     }
 }

@@ -1,6 +1,7 @@
-/* Times the comparison of two files of 3,600 records by the library and by the same rules in plain C: equal files, files with one field
- * of each record different, and files with all fields different. First the two are held to each other, number by number. For equal files
- * a memcmp of both is timed beside them, which is the limit. */
+/* Times the comparison of two files of 3,200 records by the library and by the same rules in plain C: equal files, files with one field
+ * of each record different, files with all fields different, and a file of 18-byte records beside one of 20-byte records that has the same
+ * numbers. First the two are held to each other, number by number. For equal files a memcmp of both is timed beside them, which is the
+ * limit. */
 #include "measure.h"
 #include "plain_differences.h"
 #include "plain_records.h"
@@ -10,9 +11,9 @@
 #include <string.h>
 
 enum {
-    COUNT = CK_MOST_RECORDS,
+    COUNT = CK_MOST_WRITTEN,
     LENGTH = COUNT * CK_RECORD_BYTES + CK_TRAILER_BYTES,
-    ROOM = CK_MOST_DIFFERENCES * CK_DIFFERENCE_NUMBERS,
+    ROOM = CK_MOST_DIFFERENCE_NUMBERS,
     FIELDS = 8,
     SMALL = 20,
     PAIRS = 2000,
@@ -20,33 +21,44 @@ enum {
     ROUNDS = 101
 };
 
-static const size_t BYTES[FIELDS] = {0, 4, 8, 10, 12, 14, 16, 17}; /* of a record: where each field begins */
+static packed_record records[COUNT];
 static uint8_t first[LENGTH], second[LENGTH];
 static int64_t proved_list[ROOM], plain_list[ROOM];
 
 /* --- Files --------------------------------------------------------------------------------------------------------- */
 
-/* A file of random records; its length. */
-static size_t make_file(uint8_t *file, size_t count) {
-    static packed_record records[COUNT];
+/* Random records; the Duv of half of them fits 2 bytes. */
+static void make_records(size_t count) {
     uint8_t *bytes = (uint8_t *)records;
-    for (size_t i = 0; i < count * CK_RECORD_BYTES; i++) bytes[i] = (uint8_t)below(256);
+    for (size_t i = 0; i < count * sizeof *records; i++) bytes[i] = (uint8_t)below(256);
+    for (size_t i = 0; i < count; i++)
+        if (below(2) == 0) records[i].duv = (int16_t)records[i].duv;
+}
+
+/* A file of the records with so many bytes each; its length. */
+static size_t make_file(uint8_t *file, size_t count, size_t record_bytes) {
+    if (record_bytes == CK_EARLIER_RECORD_BYTES) return earlier_write_records(records, count, file);
     return packed_write_records(records, count, file, LENGTH).count;
 }
 
-static void change_field(uint8_t *file, size_t record, size_t field) {
-    file[record * CK_RECORD_BYTES + BYTES[field]] ^= (uint8_t)(1 + below(255));
+/* Changes the lowest byte of a field. */
+static void change_field(uint8_t *file, size_t record_bytes, size_t record, size_t field) {
+    const size_t begins[FIELDS] = {0, 4, 8, 10, 12, 14, record_bytes - 2, record_bytes - 1};
+    file[record * record_bytes + begins[field]] ^= (uint8_t)(1 + below(255));
 }
 
-enum { EQUAL, ONE_FIELD, ALL_FIELDS, KINDS };
+enum { EQUAL, ONE_FIELD, ALL_FIELDS, BOTH_LENGTHS, KINDS };
 
-/* Makes the second file of the first one. */
-static void make_second(int kind) {
-    memcpy(second, first, LENGTH);
+/* Makes both files; the length of the first. */
+static size_t make_files(int kind) {
+    if (kind == BOTH_LENGTHS)
+        for (size_t i = 0; i < COUNT; i++) records[i].duv = (int16_t)records[i].duv;
+    make_file(second, COUNT, CK_RECORD_BYTES);
     for (size_t i = 0; i < COUNT; i++) {
-        if (kind == ONE_FIELD) change_field(second, i, below(FIELDS));
-        for (size_t field = 0; field < FIELDS && kind == ALL_FIELDS; field++) change_field(second, i, field);
+        if (kind == ONE_FIELD) change_field(second, CK_RECORD_BYTES, i, below(FIELDS));
+        for (size_t field = 0; field < FIELDS && kind == ALL_FIELDS; field++) change_field(second, CK_RECORD_BYTES, i, field);
     }
+    return make_file(first, COUNT, kind == BOTH_LENGTHS ? CK_EARLIER_RECORD_BYTES : CK_RECORD_BYTES);
 }
 
 /* --- Equal lists --------------------------------------------------------------------------------------------------- */
@@ -63,16 +75,22 @@ static size_t require_same(size_t first_length, size_t second_length, size_t roo
     exit(1);
 }
 
-/* Small files that share some records, now and then with a damaged trailer, in rooms about what it takes. */
+static size_t some_length(void) { return below(2) == 0 ? CK_RECORD_BYTES : CK_EARLIER_RECORD_BYTES; }
+
+static void damage(uint8_t *file, size_t length) {
+    if (below(16) == 0) file[length - 1 - below(CK_TRAILER_BYTES)] ^= (uint8_t)(below(2) == 0 ? 1 : CK_RECORD_BYTES ^ CK_EARLIER_RECORD_BYTES);
+}
+
+/* Small files of either record length that share some records, now and then with a damaged trailer, in rooms about what it takes. */
 static void require_same_pair(void) {
-    size_t m = make_file(first, below(SMALL)), n = make_file(second, below(SMALL));
-    if (below(2) == 0) {
-        n = m;
-        memcpy(second, first, n);
-        for (size_t k = below(4); k > 0 && n > CK_TRAILER_BYTES; k--) change_field(second, below(n / CK_RECORD_BYTES), below(FIELDS));
-    }
-    if (below(16) == 0) first[m - 1 - below(CK_TRAILER_BYTES)] ^= 1;
-    if (below(16) == 0) second[n - 1 - below(CK_TRAILER_BYTES)] ^= 1;
+    size_t first_count = below(SMALL), second_count = below(2) == 0 ? first_count : below(SMALL), second_bytes = some_length();
+    make_records(SMALL);
+    size_t m = make_file(first, first_count, some_length());
+    if (below(2) == 0) make_records(SMALL);
+    size_t n = make_file(second, second_count, second_bytes);
+    for (size_t k = below(4); k > 0 && second_count > 0; k--) change_field(second, second_bytes, below(second_count), below(FIELDS));
+    damage(first, m);
+    damage(second, n);
     size_t numbers = CK_DIFFERENCE_NUMBERS * require_same(m, n, ROOM);
     require_same(m, n, numbers);
     if (numbers > 0) require_same(m, n, numbers - 1);
@@ -80,10 +98,10 @@ static void require_same_pair(void) {
 
 /* --- Time ---------------------------------------------------------------------------------------------------------- */
 
-static double time_calls(compare_files *compare, size_t expected) {
+static double time_calls(compare_files *compare, size_t first_length, size_t expected) {
     double start = seconds();
     size_t counted = 0;
-    for (int i = 0; i < CALLS; i++) counted += compare(first, LENGTH, second, LENGTH, plain_list, ROOM).count;
+    for (int i = 0; i < CALLS; i++) counted += compare(first, first_length, second, LENGTH, plain_list, ROOM).count;
     double spent = seconds() - start;
     if (counted == CALLS * expected) return spent;
     printf("ANOTHER OUTCOME: %zu differences in %d calls\n", counted, CALLS);
@@ -104,28 +122,34 @@ static double time_memcmp(void) {
     exit(1);
 }
 
+static double nanoseconds(double time) { return time / CALLS / COUNT * 1e9; }
+
+static void print_kinds(const char *name, const double *times, const double *units) {
+    printf("| %-26s |  %5.2f |             %5.2f |      %5.2f |           %5.2f |\n", name, times[EQUAL] / units[EQUAL],
+           times[ONE_FIELD] / units[ONE_FIELD], times[ALL_FIELDS] / units[ALL_FIELDS], times[BOTH_LENGTHS] / units[BOTH_LENGTHS]);
+}
+
 static void print_table(const double *proved, const double *plain, double limit) {
-    printf("Processor time over that of the plain C, which takes %.2f, %.2f and %.2f ns a record here (best of %d rounds):\n\n",
-           plain[EQUAL] / CALLS / COUNT * 1e9, plain[ONE_FIELD] / CALLS / COUNT * 1e9, plain[ALL_FIELDS] / CALLS / COUNT * 1e9, ROUNDS);
-    printf("| two files of %d records  |  equal | one field of each | all fields |\n", COUNT);
-    printf("|----------------------------|-------:|------------------:|-----------:|\n");
-    printf("| Cradlekeel                 |  %5.2f |             %5.2f |      %5.2f |\n", proved[EQUAL] / plain[EQUAL],
-           proved[ONE_FIELD] / plain[ONE_FIELD], proved[ALL_FIELDS] / plain[ALL_FIELDS]);
-    printf("| plain C of the same rules  |  %5.2f |             %5.2f |      %5.2f |\n", 1.0, 1.0, 1.0);
-    printf("| memcmp of both files       |  %5.2f |                   |            |\n", limit / plain[EQUAL]);
+    printf("Processor time over that of the plain C, which takes %.2f, %.2f, %.2f and %.2f ns a record here (best of %d rounds):\n\n",
+           nanoseconds(plain[EQUAL]), nanoseconds(plain[ONE_FIELD]), nanoseconds(plain[ALL_FIELDS]), nanoseconds(plain[BOTH_LENGTHS]), ROUNDS);
+    printf("| two files of %d records  |  equal | one field of each | all fields | 18 and 20 bytes |\n", COUNT);
+    printf("|----------------------------|-------:|------------------:|-----------:|----------------:|\n");
+    print_kinds("Cradlekeel", proved, plain);
+    print_kinds("plain C of the same rules", plain, plain);
+    printf("| memcmp of both files       |  %5.2f |                   |            |                 |\n", limit / plain[EQUAL]);
 }
 
 int main(void) {
-    static const size_t expected[KINDS] = {0, COUNT, CK_MOST_DIFFERENCES};
+    static const size_t expected[KINDS] = {0, COUNT, FIELDS * COUNT, 0};
     double proved[KINDS] = {0}, plain[KINDS] = {0}, limit = 0;
     for (int i = 0; i < PAIRS; i++) require_same_pair();
-    make_file(first, COUNT);
+    make_records(COUNT);
     for (int kind = 0; kind < KINDS; kind++) {
-        make_second(kind);
-        require_same(LENGTH, LENGTH, ROOM);
+        size_t length = make_files(kind);
+        require_same(length, LENGTH, ROOM);
         for (int round = 0; round < ROUNDS; round++) {
-            keep_least(&proved[kind], time_calls(ck_compare_files, expected[kind]));
-            keep_least(&plain[kind], time_calls(plain_compare_files, expected[kind]));
+            keep_least(&proved[kind], time_calls(ck_compare_files, length, expected[kind]));
+            keep_least(&plain[kind], time_calls(plain_compare_files, length, expected[kind]));
             if (kind == EQUAL) keep_least(&limit, time_memcmp());
         }
     }

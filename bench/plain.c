@@ -7,7 +7,7 @@
 
 enum { ENTRIES = 24, PIECE = 2584, KELVIN_PLACES = 103360000, MOST_STEPS = 14, WHOLE_LIMIT = 4000000 };
 enum { MOST_SAMPLES = 471, SAMPLE_LIMIT = 16777215, OBSERVER_LIMIT = 4000000 };
-static const int64_t FARTHEST = 900000000;
+static const int64_t FARTHEST = 2500000000;
 
 static const uint32_t TABLE_U[ENTRIES] = {183870, 186730, 190310, 194620, 199620, 205240, 211420, 218070,
                                           225110, 232470, 240100, 247920, 255910, 264000, 272170, 280390,
@@ -172,7 +172,7 @@ static ck_whole answer(point reading, const uint32_t *edges, size_t edge_count, 
     if (refusal) return refused(refusal);
     uint32_t steps = max_steps < MOST_STEPS ? max_steps : MOST_STEPS;
     state s = search(reading, found, steps);
-    int32_t root = (int32_t)sqrt((double)s.at_best); /* below 2^30, so the root of the double is exact enough to cut */
+    int32_t root = (int32_t)sqrt((double)s.at_best); /* below 2^32, so the root of the double is exact enough to cut */
     return (ck_whole){.place = s.best,
                       .low = s.low,
                       .high = s.high,

@@ -31,7 +31,7 @@ static size_t least(const size_t counts[8]) {
 
 ck_board_answer plain_board_load(const uint32_t *u, size_t u_count, const uint32_t *v, size_t v_count, const uint16_t *place,
                                  size_t place_count, const uint16_t *low, size_t low_count, const uint16_t *high,
-                                 size_t high_count, const int16_t *duv, size_t duv_count, const uint8_t *steps,
+                                 size_t high_count, const int32_t *duv, size_t duv_count, const uint8_t *steps,
                                  size_t steps_count, const uint8_t *class_index, size_t class_count) {
     const size_t counts[8] = {u_count, v_count, place_count, low_count, high_count, duv_count, steps_count, class_count};
     size_t count = least(counts);

@@ -7,7 +7,7 @@
 /* By value, in the library's form; the types of ck_board_load, ck_board_read and ck_board_assign too. */
 typedef ck_board_answer load_board(const uint32_t *u, size_t u_count, const uint32_t *v, size_t v_count, const uint16_t *place,
                                    size_t place_count, const uint16_t *low, size_t low_count, const uint16_t *high,
-                                   size_t high_count, const int16_t *duv, size_t duv_count, const uint8_t *steps,
+                                   size_t high_count, const int32_t *duv, size_t duv_count, const uint8_t *steps,
                                    size_t steps_count, const uint8_t *class_index, size_t class_count);
 typedef ck_board_answer read_board(ck_board board, size_t place);
 typedef ck_board_answer assign_board(ck_board board, size_t place, uint16_t stamp, uint32_t job);

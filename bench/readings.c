@@ -6,7 +6,7 @@ uint32_t us[READINGS], vs[READINGS];
 float xs[READINGS], ys[READINGS];
 
 int offer_reading(size_t i) {
-    us[i] = (uint32_t)(150000 + below(230000)), vs[i] = (uint32_t)(240000 + below(160000));
+    us[i] = (uint32_t)(130000 + below(270000)), vs[i] = (uint32_t)(220000 + below(200000));
     double u = us[i] / 1e6, v = vs[i] / 1e6, n = 2 * u - 8 * v + 4;
     xs[i] = (float)(3 * u / n), ys[i] = (float)(2 * v / n);
     return plain_read_micro(us[i], vs[i], EDGES, EDGE_COUNT, 0).whole.refusal == CK_ACCEPTED &&

@@ -7,7 +7,7 @@
 #include <stdio.h>
 #include <stdlib.h>
 
-enum { NUMBERS = 50000, ROUNDS = 201, FARTHEST = 30000, CHECKED = 1500000 };
+enum { NUMBERS = 50000, ROUNDS = 201, FARTHEST = 50000, CHECKED = 1500000 };
 
 root_of proved_root; /* arith::integer_root, as bench/root exports it */
 
