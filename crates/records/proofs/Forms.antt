@@ -40,15 +40,12 @@ most-earlier long e = rw (eq-eqb long 18 e) refl
 pub most-other : (long : ℕ) → (long ≡ 18 → ⊥) → 3200 ≡ mostRecords long
 most-other long h = rw (ne-eqb long 18 h) refl
 
+-- a length of records that are read, where it is not 18
 pub other-length : (long : ℕ) → Known long → (long ≡ 18 → ⊥) → long ≡ 20
 other-length long (of-18 e) h = absurd (h e)
 other-length long (of-20 e) h = e
 
--- a record of known length that is whole in the bytes ends in them
-pub ends-within : (long i size : ℕ) → Known long → i < size / long → long * i + long ≤ size
-ends-within long i size (of-18 e) h = let l : i < size / 18 = rw e at h in rw e (omega arith)
-ends-within long i size (of-20 e) h = let l : i < size / 20 = rw e at h in rw e (omega arith)
-
+-- and whichever it is
 pub between : (long : ℕ) → Known long → (18 ≤ long) × (long ≤ 20)
 between long (of-18 e) = (omega (arith, e), omega (arith, e))
 between long (of-20 e) = (omega (arith, e), omega (arith, e))

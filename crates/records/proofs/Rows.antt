@@ -16,7 +16,7 @@ use Rattle.records.specs.ColumnsLaws.{Level, has-row, filled-next, fille
 use Rattle.records.specs.Code.Rows.{stored}
 use Rattle.records.specs.declared.fields.Record.{Record}
 
--- the bytes hold a row that is one of the first n, which they hold
+-- a record that is one of the first n ends within the bytes that hold these
 pub row-within : (long i n size : ℕ) → i < n → long * n ≤ size → long * i + long ≤ size
 row-within long i n size h k =
     let up : long * suc i ≤ long * n = mul-le-mul-left long (omega arith) in omega (arith, mul-suc long i, up)

@@ -12,11 +12,16 @@ use Rattle.records.proofs.bytes.signed_of.Tie as tie
 largest-requires : tie.Need-largest-requires
 largest-requires c κs = search needs
 
+near : (s : tie.Then1) → s .before .before .args .n ≤ 2147483647
+near s = lower-fits (s .before .before .args .width) (s .before .before .args .n) (s .before .largest .result) (s .before .before .pre .0) (s .before .largest .ensures) (s .before .before .pre .1) (s .if1 .taken)
+
 cast-result : tie.Need-cast-result
-cast-result c = omega (arith, lower-fits (c .before .before .args .width) (c .before .before .args .n) (c .before .largest .result) (c .before .before .pre .0) (c .before .largest .ensures) (c .before .before .pre .1) (c .if1 .taken))
+cast-result c = omega (arith, near c)
 
 returns : tie.Need-returns
-returns c = toZ-pos w32 (omega (arith, lower-fits (c .before .before .args .width) (c .before .before .args .n) (c .before .largest .result) (c .before .before .pre .0) (c .before .largest .ensures) (c .before .before .pre .1) (c .if1 .taken))) ∙ lower-half (c .before .before .args .width) (c .before .before .args .n) (c .before .largest .result) (c .before .before .pre .0) (c .before .largest .ensures) (c .before .before .pre .1) (c .if1 .taken)
+returns c =
+    toZ-pos w32 (omega (arith, near c))
+    ∙ lower-half (c .before .before .args .width) (c .before .before .args .n) (c .before .largest .result) (c .before .before .pre .0) (c .before .largest .ensures) (c .before .before .pre .1) (c .if1 .taken)
 
 sub-result : tie.Need-sub-result
 sub-result c = omega (arith, c .before .largest .ensures, c .before .before .pre .1)
