@@ -286,19 +286,22 @@ struct done ck_write_records(const void *u, size_t us, const void *v, size_t vs,
     for (size_t i = 0; i < room && i < 8; i++) file[i] = i == 0 ? 18 : 0;
     return done;
 }
+void ck_read_micro(void) {}
 """
-ASKED = "import cradlekeel; cradlekeel.to_bytes([])"
+ASKED = "to_bytes([])", "read_micro(219300, 327100)"
 
 
 def check_older_library():
-    """A library that writes records of 18 bytes, as it did before, is told of, and no record goes to it."""
+    """A library that writes records of 18 bytes, as it did before, is told of, and neither records nor readings go to it."""
     with tempfile.TemporaryDirectory() as folder:
         source, library = Path(folder) / "older.c", Path(folder) / "older.so"
         source.write_text(OLDER_LIBRARY)
         subprocess.run(["gcc", "-shared", "-fPIC", source, "-o", library], check=True)
         variables = {**os.environ, "PYTHONPATH": str(ROOT / "python"), "CRADLEKEEL_LIBRARY": str(library)}
-        ran = subprocess.run([sys.executable, "-B", "-c", ASKED], env=variables, capture_output=True, text=True)
-        assert ran.returncode == 1 and f"{library} writes records of 18 bytes: it is older than this package" in ran.stderr, ran
+        for call in ASKED:
+            ran = subprocess.run([sys.executable, "-B", "-c", f"import cradlekeel; cradlekeel.{call}"], env=variables, capture_output=True, text=True)
+            assert ran.returncode == 1 and f"{library} writes records of 18 bytes: it is older than this package" in ran.stderr, ran
+            assert "CRADLEKEEL_LIBRARY names it" in ran.stderr, ran
 
 
 def check_records_of_answers():
