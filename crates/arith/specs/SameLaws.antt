@@ -1,8 +1,9 @@
 -- Laws of the test for the same number: it says what it should, also by the bits in which a machine holds the numbers.
 use mathlib.Core.Path.{_≡_, refl, ap, sym, _∙_}
 use mathlib.Core.Bool.{Bool, true, false, true≢false}
+use lib.Dec.{eqb}
 use lib.IntN.{ℤ, pos, negsuc}
-use borrow.Author.Tests.{eqb-true, eq-eqb}
+use borrow.Author.Tests.{eqb-true, eqb-false, eq-eqb}
 use mir.Syntax.{Width}
 use mir.Val.{SFits, toZ, ofZ}
 use Rattle.arith.specs.Same.{same}
@@ -43,3 +44,10 @@ module _ (w : Width) (x y : ℤ) where
 
   pub bits-differ : (ofZ w x ≡ ofZ w y → ⊥) → same x y ≡ false
   bits-differ h = false-same x y (λ e. h (ap (ofZ w) e))
+
+  pub bits-test : SFits w x → SFits w y → eqb (ofZ w x) (ofZ w y) ≡ same x y
+  bits-test f g = go (eqb (ofZ w x) (ofZ w y)) refl
+    where
+      go : (b : Bool) → eqb (ofZ w x) (ofZ w y) ≡ b → b ≡ same x y
+      go true e = sym (bits-same f g (eqb-true (ofZ w x) (ofZ w y) e))
+      go false e = sym (bits-differ (eqb-false (ofZ w x) (ofZ w y) e))

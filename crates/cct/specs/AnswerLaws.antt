@@ -1,5 +1,5 @@
 -- Laws of the answer: where an accepted one lies, and that every entry point's answer is the answer to what it converts its reading to.
-use mathlib.Core.Path.{_≡_, refl, sym, ap, _∙_}
+use mathlib.Core.Path.{_≡_, refl, ap, _∙_}
 use mathlib.Core.Bool.{Bool, true, false, cond}
 use mathlib.Core.List.{List}
 use Prim.Native.Nat.{ℕ, zero, suc, _*_, _≤_}
@@ -10,7 +10,6 @@ use lib.IntN.{pos, negℤ, natAbs}
 use borrow.Author.Tests.{ltb-false}
 use Rattle.arith.specs.Root.{root}
 use Rattle.arith.specs.RootLaws.{root-law}
-use Rattle.refusal.specs.NumberLaws.{number-positive}
 use Rattle.reading.specs.declared.Converted.{Converted}
 use Rattle.locus.specs.Stored.{firstPlace, lastPlace}
 use Rattle.locus.specs.Locus.{locusV, distanceAt, entryDistance}
@@ -22,7 +21,7 @@ use Rattle.search.specs.GoldenLaws.{after-range, after-near}
 use Rattle.cct.specs.declared.Answer.{Answer}
 use Rattle.cct.specs.Answers.{duvAt, accepted, answer}
 use Rattle.cct.specs.Conditions.{Clear}
-use Rattle.cct.specs.RefusalLaws.{Decided, refusal, clear, decided, condition-refused, clear-accepted}
+use Rattle.cct.specs.RefusalLaws.{clear-accepted, accepted-clear}
 
 -- a place and a bracket of the locus, and a Duv no farther than the limit of refusal 5
 pub record Bounded (a : Answer) : Type 0 where
@@ -56,11 +55,7 @@ accepted-bounded es c u v n k =
 
 -- every accepted answer lies there
 pub answer-bounded : (es : List ℕ) (c : Converted) (n : ℕ) → answer es c n .refusal ≡ 0 → Bounded (answer es c n)
-answer-bounded es c n e = go (decided es c)
-  where
-    go : Decided es c → Bounded (answer es c n)
-    go (refusal r k) = absurd (omega (arith, number-positive r, sym e ∙ ap (λ (a : Answer). a .refusal) (condition-refused es c r k n)))
-    go (clear u v k) = rw (clear-accepted es c u v k n) (accepted-bounded es c u v n k)
+answer-bounded es c n e = accepted-clear es c n e (λ u v k. rw (clear-accepted es c u v k n) (accepted-bounded es c u v n k))
 
 le-square : (n : ℕ) → n ≤ n * n
 le-square zero = omega arith

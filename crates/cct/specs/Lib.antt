@@ -6,4 +6,5 @@ pub mod AnswerLaws
 pub mod FloatLaws
 pub mod Refinement
 pub mod RefinementProof
+pub mod AgainLaws
 pub mod Code

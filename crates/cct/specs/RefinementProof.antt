@@ -47,7 +47,7 @@ module _ (es : List ℕ) (c : Converted) (u v : ℕ) (k : Clear es c u v) where
       })
 
   -- an accepted answer sees only how many steps are counted
-  counted : (n₁ n₂ : ℕ) → stepsOf n₁ ≡ stepsOf n₂ → answer es c n₁ ≡ answer es c n₂
+  pub counted : (n₁ n₂ : ℕ) → stepsOf n₁ ≡ stepsOf n₂ → answer es c n₁ ≡ answer es c n₂
   unfolding accepted
   counted n₁ n₂ e = rw (clear-accepted es c u v k n₁, clear-accepted es c u v k n₂, e) refl
 

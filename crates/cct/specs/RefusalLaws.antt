@@ -50,6 +50,14 @@ decided es c = go (edgesValid es) refl c refl
     go true e (converted.Refused r) f = refusal r (not-converted r e f)
     go true e (converted.Point u v) f = at-point es c u v (record { edges = e; point = f }) (tooFar u v) (past u v 1 2) (past u v 24 23) refl refl refl
 
+-- what holds of every reading that no check refuses holds where an answer is accepted
+pub accepted-clear : {A : Type 0} (es : List ℕ) (c : Converted) (n : ℕ) → answer es c n .refusal ≡ 0 → ((u v : ℕ) → Clear es c u v → A) → A
+accepted-clear {A} es c n e f = go (decided es c)
+  where
+    go : Decided es c → A
+    go (refusal r k) = absurd (omega (arith, number-positive r, sym e ∙ ap (λ (a : Answer). a .refusal) (condition-refused es c r k n)))
+    go (clear u v k) = f u v k
+
 -- a refusal that is given has its condition
 pub refused-condition : (es : List ℕ) (c : Converted) (n : ℕ) (r : Refusal) → answer es c n ≡ refused r → Condition es c r
 unfolding accepted

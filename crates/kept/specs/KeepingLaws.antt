@@ -1,5 +1,5 @@
 -- Every accepted answer is kept whole, and no refused one is.
-use mathlib.Core.Path.{_≡_, refl, sym, ap, _∙_}
+use mathlib.Core.Path.{_≡_, refl}
 use mathlib.Core.Bool.{Bool, true, false, _&&_}
 use mathlib.Core.List.{List}
 use Prim.Native.Nat.{ℕ, zero, suc, _*_, _≤_, _<_}
@@ -12,14 +12,13 @@ use Rattle.arith.specs.TestLaws.{and-both, both-and, cond-both}
 use Rattle.records.specs.BytesLaws.{Holds}
 use Rattle.records.specs.Fields.{duvWidth}
 use Rattle.records.specs.FieldsLaws.{Narrow}
-use Rattle.refusal.specs.NumberLaws.{number-positive}
 use Rattle.locus.specs.Admission.{nearestEntry, limit}
 use Rattle.classes.specs.Classes.{noClass, lastPassing, classCount}
 use Rattle.reading.specs.declared.Converted.{Converted}
 use Rattle.cct.specs.declared.Answer.{Answer}
 use Rattle.cct.specs.Answers.{accepted, answer}
 use Rattle.cct.specs.AnswerLaws.{answer-bounded}
-use Rattle.cct.specs.RefusalLaws.{Decided, refusal, clear, decided, condition-refused, clear-accepted}
+use Rattle.cct.specs.RefusalLaws.{clear-accepted, accepted-clear}
 use Rattle.kept.specs.Keeping.{recordOf, fitsRecord, keep}
 use Rattle.kept.specs.declared.Kept.the-variants as is
 
@@ -88,11 +87,7 @@ small-accepted es n u v m = (omega arith, small-class _ (classCount es) (omega a
 
 -- one byte holds its steps, and its class
 accepted-small : (es : List ℕ) (c : Converted) (n : ℕ) → answer es c n .refusal ≡ 0 → (answer es c n .steps < 256) × (answer es c n .class < 256)
-accepted-small es c n e = go (decided es c)
-  where
-    go : Decided es c → (answer es c n .steps < 256) × (answer es c n .class < 256)
-    go (refusal r k) = absurd (omega (arith, number-positive r, sym e ∙ ap (λ (a : Answer). a .refusal) (condition-refused es c r k n)))
-    go (clear u v k) = rw (clear-accepted es c u v k n) (small-accepted es n u v (nearestEntry u v))
+accepted-small es c n e = accepted-clear es c n e (λ u v k. rw (clear-accepted es c u v k n) (small-accepted es n u v (nearestEntry u v)))
 
 -- the record of an accepted answer, u and v having 32 bits, is no wider than its fields
 pub kept-narrow : (u v : ℕ) (es : List ℕ) (c : Converted) (n : ℕ) → answer es c n .refusal ≡ 0 → u < 4294967296 → v < 4294967296 → Narrow duvWidth (recordOf u v (answer es c n))

@@ -84,3 +84,11 @@ micro-refused-condition u v s = go (leb u microLimit) (leb v microLimit) refl re
     go false b x y e = of-given (MicroCondition u v) refl e (u-over (leb-false u microLimit x))
     go true false x y e = of-given (MicroCondition u v) refl e (v-over (leb-false v microLimit y))
     go true true x y e = never refl e
+
+-- two whole numbers that come to a point come to the point that they are
+pub micro-point : (u v x y : ℕ) → convertMicro u v ≡ Point x y → convertMicro u v ≡ Point u v
+micro-point u v x y = go (leb u microLimit && leb v microLimit)
+  where
+    go : (b : Bool) → cond b (Point u v) (Refused OutOfRange) ≡ Point x y → cond b (Point u v) (Refused OutOfRange) ≡ Point u v
+    go true e = refl
+    go false e = never e refl

@@ -2,15 +2,14 @@
 use mathlib.Core.Path.{_≡_, ap, sym, subst, _∙_}
 use Prim.Native.Nat.{ℕ, suc, _+_, _*_, _≤_, _<_}
 use native.Mathlib.Nat.{mul-suc, mul-le-mul-left}
-use mathlib.Core.List.{List, [], _∷_, _++_}
+use mathlib.Core.List.{List}
 use native.Mathlib.Omega.{arith}
-use native.Mathlib.Numerals.{add-one}
 use lib.ListN.{drop}
 use Rattle.records.specs.Fields.{duvWidthOf, frontRecord}
 use Rattle.records.specs.Conditions.{Known}
-use Rattle.records.specs.RefusalLaws.{known-width}
 use Rattle.records.specs.Files.{recordsIn}
-use Rattle.records.specs.FilesLaws.{length-records-in, records-append}
+use Rattle.records.specs.FilesLaws.{length-records-in}
+use Rattle.records.specs.WholeLaws.{next-record}
 use Rattle.records.specs.Columns.{Columns, sizeOf, filled}
 use Rattle.records.specs.ColumnsLaws.{Level, has-row, filled-next, filled-none, filled-level}
 use Rattle.records.specs.Code.Rows.{stored}
@@ -36,7 +35,4 @@ module _ (long : ℕ) (l : List ℕ) (c : Columns) where
   pub next-read : Known long → (i : ℕ) (d e : Columns) (r : Record) → i < sizeOf c → d ≡ filled (recordsIn (duvWidthOf long) i l) c → r ≡ frontRecord (duvWidthOf long) (drop (long * i) l) → e ≡ stored d i r → e ≡ filled (recordsIn (duvWidthOf long) (i + 1) l) c
   next-read k i d e r h hd hr he =
       let rs = recordsIn (duvWidthOf long) i l in
-      let more : rs ++ (r ∷ []) ≡ recordsIn (duvWidthOf long) (i + 1) l
-      = ap (λ (z : Record). rs ++ (z ∷ [])) hr ∙ ap (λ (m : ℕ). rs ++ (frontRecord (duvWidthOf long) (drop (m * i) l) ∷ [])) (sym (known-width long k))
-      ∙ sym (records-append (duvWidthOf long) i l) ∙ ap (λ (n : ℕ). recordsIn (duvWidthOf long) n l) (sym (add-one i)) in
-      he ∙ ap (λ (z : Columns). stored z i r) hd ∙ filled-next rs c r i (length-records-in (duvWidthOf long) i l) (has-row c i h) ∙ ap (λ (z : List Record). filled z c) more
+      he ∙ ap (λ (z : Columns). stored z i r) hd ∙ filled-next rs c r i (length-records-in (duvWidthOf long) i l) (has-row c i h) ∙ ap (λ (z : List Record). filled z c) (sym (next-record long l i k r hr))

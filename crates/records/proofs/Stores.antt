@@ -1,18 +1,18 @@
 -- Runs of bytes stored one after another: a record's numbers, a trailer's, and record after record.
 use mathlib.Core.Path.{_≡_, refl, ap, sym, _∙_}
 use Prim.Native.Nat.{ℕ, _+_, _*_}
-use mathlib.Core.List.{List, [], _∷_, _++_}
-use native.Mathlib.Omega.{arith}
+use mathlib.Core.List.{List, [], _∷_, _++_, append-nil}
 use native.Mathlib.Numerals.{add-one}
+use lib.ListN.{length}
 use lib.Seq.{sets}
 use Rattle.records.specs.Bytes.{bytesOf, asUnsigned}
 use Rattle.records.specs.Fields.{duvWidth, recordBytes}
 use Rattle.records.specs.FieldsLaws.{Narrow}
 use Rattle.records.specs.Files.{trailerBytes, recordsBytes}
-use Rattle.records.specs.FilesLaws.{AllNarrow, narrow-append, length-records-bytes, bytes-append}
+use Rattle.records.specs.FilesLaws.{AllNarrow, narrow-append}
 use Rattle.records.specs.Columns.{Columns, rowAt, rows}
 use Rattle.records.specs.ColumnsLaws.{length-rows}
-use Rattle.records.specs.StoreLaws.{then}
+use Rattle.records.specs.StoreLaws.{then, records-stored}
 use Rattle.records.specs.declared.fields.Record.{Record}
 
 -- the numbers of a record, whose Duv is n as an unsigned number
@@ -51,10 +51,10 @@ module _ (c : Columns) (i : ℕ) (r : Record) (e : r ≡ rowAt c i) where
 
   -- one row more is stored
   pub row-stored : (o : List ℕ) {p q : List ℕ} → p ≡ sets o 0 (recordsBytes duvWidth (rows c i)) → q ≡ sets p (20 * i) (recordBytes duvWidth r) → q ≡ sets o 0 (recordsBytes duvWidth (rows c (i + 1)))
-  row-stored o f g =
-      let before = recordsBytes duvWidth (rows c i) in
-      then o 0 (20 * i) before (recordBytes duvWidth r) f g (omega (arith, length-records-bytes duvWidth (rows c i), length-rows c i))
-      ∙ ap (sets o 0) (sym (bytes-append duvWidth (rows c i) r) ∙ ap (recordsBytes duvWidth) (sym next-rows))
+  row-stored o {p} f g =
+      let rs = rows c i in
+      let g' : _ ≡ sets p (20 * length rs) (recordsBytes duvWidth (r ∷ [])) = g ∙ rw (length-rows c i, append-nil (recordBytes duvWidth r)) refl in
+      records-stored o rs (r ∷ []) f g' ∙ ap (λ (z : List Record). sets o 0 (recordsBytes duvWidth z)) (sym next-rows)
 
   pub row-narrow : AllNarrow duvWidth (rows c i) → Narrow duvWidth r → AllNarrow duvWidth (rows c (i + 1))
   row-narrow ns n = rw next-rows (narrow-append duvWidth (rows c i) r ns n)

@@ -1,26 +1,29 @@
 -- The writer and the reader, by the tests that the code makes and the functions that it calls.
 use mathlib.Core.Path.{_≡_, refl, ap, sym, subst, _∙_}
-use Prim.Native.Nat.{ℕ, _+_, _*_, _≤_, _<_, min}
-use mathlib.Core.List.{List, _++_}
+use Prim.Native.Nat.{ℕ, _+_, _*_, _/_, _≤_, _<_, min}
+use mathlib.Core.Bool.{true, false}
+use mathlib.Core.List.{List}
 use native.Mathlib.Omega.{arith}
 use lib.ListN.{length}
 use lib.Seq.{sets}
+use borrow.Author.Tests.{lt-ltb, le-ltb}
 use Rattle.refusal.specs.declared.Refusal.{Refusal}
 use Rattle.refusal.specs.declared.Refusal.the-variants.{TooManyRecords, NoRoom}
 use Rattle.records.specs.BytesLaws.{Bytes}
-use Rattle.records.specs.Fields.{duvWidth, duvWidthOf}
-use Rattle.records.specs.Files.{trailerBytes, recordsBytes, fileOf, recordsIn, duvWidthIn, backIn, formOf, recordsOf}
-use Rattle.records.specs.FilesLaws.{AllNarrow, length-file, length-records-bytes}
+use Rattle.records.specs.Fields.{duvWidth, duvWidthOf, recordBytes}
+use Rattle.records.specs.Files.{trailerBytes, recordsBytes, fileOf, fileLength, recordsIn, duvWidthIn, backIn, formOf, recordsOf}
+use Rattle.records.specs.FilesLaws.{AllNarrow}
 use Rattle.records.specs.Columns.{Columns, sizeOf, rows, listOf, over, filled}
 use Rattle.records.specs.ColumnsLaws.{length-rows, length-list}
-use Rattle.records.specs.StoreLaws.{then, stored-over}
-use Rattle.records.specs.Transfer.{writeOutcome, readOutcome}
+use Rattle.records.specs.StoreLaws.{file-stored}
+use Rattle.records.specs.Transfer.{writeOutcome, hasRecordRoom, storedInto, closedInto, written, readOutcome}
 use Rattle.records.specs.Conditions.{Known, of-20, over-most, short-target, bad-form, short-columns}
-use Rattle.records.specs.RefusalLaws.{condition-write, clear-write, condition-read, clear-read, form-condition, form-readable}
-use Rattle.records.specs.RoundTrips.{SameList}
+use Rattle.records.specs.RefusalLaws.{condition-write, clear-write, write-done, condition-read, clear-read, form-condition, form-readable}
+use Rattle.records.specs.RoundTrips.{SameList, ReadsBack}
 use Rattle.records.specs.RoundTripLaws.{form-records, read-written, written-read}
 use Rattle.records.specs.declared.fields.Record.{Record}
 use Rattle.records.specs.declared.files.Form.the-variants as form
+use Rattle.records.specs.declared.transfer.Outcome.{Outcome}
 use Rattle.records.specs.declared.transfer.Outcome.the-variants.{Refused, Done}
 
 -- the least of the eight lengths is that of the list
@@ -28,33 +31,49 @@ pub size-is : (c : Columns) (n : ℕ) → n ≡ min (length (c .u)) (min (length
 unfolding sizeOf
 size-is c n e = e
 
+-- the tests of the room, as the code makes them
+module _ (n room : ℕ) where
+  pub many-written : 3200 < n → Refused TooManyRecords ≡ writeOutcome n room
+  many-written h = sym (condition-write n room TooManyRecords (over-most h))
+
+  pub short-written : n ≤ 3200 → room < 20 * n + 8 → Refused NoRoom ≡ writeOutcome n room
+  short-written h k = sym (condition-write n room NoRoom (short-target h k))
+
+  pub done-written : n ≤ 3200 → 20 * n + 8 ≤ room → Done (20 * n + 8) ≡ writeOutcome n room
+  done-written h k = sym (clear-write n room h k)
+
+-- record i has room or has none, by the test of the code
+module _ (i : ℕ) (r : Record) (old : List ℕ) where
+  pub put-in-room : {new : List ℕ} → i < length old / 20 → new ≡ sets old (20 * i) (recordBytes duvWidth r) → (true ≡ hasRecordRoom i old) × (new ≡ storedInto i r old)
+  put-in-room h e = rw (lt-ltb i (length old / 20) h) (refl, e)
+
+  pub put-nowhere : length old / 20 ≤ i → (false ≡ hasRecordRoom i old) × (old ≡ storedInto i r old)
+  put-nowhere h = rw (le-ltb i (length old / 20) h) (refl, refl)
+
+-- a list in columns, whose rows are stored from the first byte on and then closed
 module _ (c : Columns) (n : ℕ) (e : n ≡ sizeOf c) (old : List ℕ) where
-  pub many-written : 3200 < n → Refused TooManyRecords ≡ writeOutcome (sizeOf c) (length old)
-  many-written h = sym (condition-write (sizeOf c) (length old) TooManyRecords (over-most (omega (arith, e))))
-
-  pub short-written : n ≤ 3200 → length old < 20 * n + 8 → Refused NoRoom ≡ writeOutcome (sizeOf c) (length old)
-  short-written h k = sym (condition-write (sizeOf c) (length old) NoRoom (short-target (omega (arith, e)) (omega (arith, e))))
-
-  pub done-written : n ≤ 3200 → 20 * n + 8 ≤ length old → Done (20 * n + 8) ≡ writeOutcome (sizeOf c) (length old)
-  done-written h k =
-      ap (λ (m : ℕ). Done (20 * m + 8)) e ∙ sym (clear-write (sizeOf c) (length old) (omega (arith, e)) (omega (arith, e)))
-
   rows-are : rows c n ≡ listOf c
   unfolding listOf
   rows-are = ap (rows c) e
 
-  file-is : recordsBytes duvWidth (rows c n) ++ trailerBytes duvWidth n ≡ fileOf duvWidth (listOf c)
-  unfolding fileOf
-  file-is = ap (λ (m : ℕ). recordsBytes duvWidth (rows c n) ++ trailerBytes duvWidth m) (sym (length-rows c n)) ∙ ap (fileOf duvWidth) rows-are
+  pub room-of-list : writeOutcome n (length old) ≡ writeOutcome (sizeOf c) (length old)
+  room-of-list = ap (λ (m : ℕ). writeOutcome m (length old)) e
 
-  -- the records and then the trailer are the file
-  pub target-written : {p q : List ℕ} → 20 * n + 8 ≤ length old → p ≡ sets old 0 (recordsBytes duvWidth (rows c n)) → q ≡ sets p (20 * n) (trailerBytes duvWidth n) → q ≡ over (fileOf duvWidth (listOf c)) old
-  target-written k f g =
-      then old 0 (20 * n) (recordsBytes duvWidth (rows c n)) (trailerBytes duvWidth n) f g (omega (arith, length-records-bytes duvWidth (rows c n), length-rows c n))
-      ∙ ap (sets old 0) file-is ∙ stored-over (fileOf duvWidth (listOf c)) old (omega (arith, length-file duvWidth (listOf c), length-list c, e))
+  file-written : {p : List ℕ} → fileLength duvWidth n ≤ length old → p ≡ sets old 0 (recordsBytes duvWidth (rows c n)) → sets p (20 * n) (trailerBytes duvWidth n) ≡ over (fileOf duvWidth (listOf c)) old
+  file-written {p} h f =
+      let long = length-rows c n in
+      file-stored old (rows c n) (omega (arith, long)) f (ap (λ (m : ℕ). sets p (20 * m) (trailerBytes duvWidth m)) (sym long)) ∙ ap (λ (rs : List Record). over (fileOf duvWidth rs) old) rows-are
 
-  pub back-written : n ≤ 3200 → AllNarrow duvWidth (rows c n) → SameList duvWidth (listOf c)
-  back-written h ns = read-written 3 (listOf c) (of-20 refl) (subst (AllNarrow duvWidth) rows-are ns) (omega (arith, length-list c, e))
+  -- what the outcome is, what the target holds, and that the list comes back
+  pub list-written : (k : ℕ) {mid new : List ℕ} {r : Outcome} → writeOutcome n (length old) ≡ Done k → length mid ≡ length old → mid ≡ sets old 0 (recordsBytes duvWidth (rows c n)) → AllNarrow duvWidth (rows c n) →
+      r ≡ writeOutcome n (length mid) → new ≡ closedInto r n mid → (r ≡ writeOutcome (sizeOf c) (length old)) × (new ≡ written r (listOf c) old) × ReadsBack r (listOf c)
+  list-written k {mid} {new} {r} d same f ns g h =
+      let done = write-done n (length old) k d in
+      let as-told : r ≡ writeOutcome n (length old) = g ∙ ap (writeOutcome n) same in
+      let is-done : r ≡ Done k = as-told ∙ d in
+      let back : SameList duvWidth (listOf c) = read-written 3 (listOf c) (of-20 refl) (subst (AllNarrow duvWidth) rows-are ns) (omega (arith, length-list c, e, done .0)) in
+      let target : new ≡ written (Done k) (listOf c) old = h ∙ ap (λ (o : Outcome). closedInto o n mid) is-done ∙ file-written (done .1) f in
+      (as-told ∙ room-of-list, target ∙ ap (λ (o : Outcome). written o (listOf c) old) (sym is-done), subst (λ (o : Outcome). ReadsBack o (listOf c)) (sym is-done) back)
 
 -- what the test of the room says, of the list's own length
 pub too-short : {a b n : ℕ} → a ≡ b → a < n → b < n

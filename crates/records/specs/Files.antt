@@ -56,6 +56,10 @@ unfoldable pub recordsIn : ℕ → ℕ → List ℕ → List Record
 recordsIn d zero l = []
 recordsIn d (suc n) l = frontRecord d l ∷ recordsIn d n (drop (recordLength d) l)
 
+-- the records of this length that are whole in the bytes, from the first byte on, whatever follows them
+abbrev pub wholeRecords : (long : ℕ) → List ℕ → List Record
+wholeRecords long l = recordsIn (duvWidthOf long) (length l / long) l
+
 -- a record of zeros
 abbrev pub zeroRecord : Record
 zeroRecord = record { u = 0; v = 0; place = 0; low = 0; high = 0; duv = pos 0; steps = 0; class = 0 }

@@ -1,7 +1,7 @@
 -- Laws of files: how long they are, which record is which, and that the records come back from a file, as a file does from its records.
 use Prim.Native.Nat.{ℕ, zero, suc, _+_, _*_, _≤_, _<_}
 use mathlib.Core.Path.{_≡_, refl, ap, sym, _∙_}
-use mathlib.Core.List.{List, [], _∷_, _++_, append-assoc, append-nil}
+use mathlib.Core.List.{List, [], _∷_, _++_, append-assoc}
 use native.Mathlib.Omega.{arith}
 use native.Mathlib.Nat.{mul-suc, add-comm}
 use lib.ListN.{length, take, drop, getD, length-append, length-drop}
@@ -35,11 +35,11 @@ pub length-file : (d : ℕ) (rs : List Record) → length (fileOf d rs) ≡ file
 unfolding fileOf trailerBytes
 length-file d rs = length-append (recordsBytes d rs) (trailerBytes d (length rs)) ∙ omega (arith, length-records-bytes d rs)
 
--- one record more
-pub bytes-append : (d : ℕ) (rs : List Record) (r : Record) → recordsBytes d (rs ++ (r ∷ [])) ≡ recordsBytes d rs ++ recordBytes d r
-bytes-append d [] r = append-nil (recordBytes d r)
-bytes-append d (x ∷ rs) r =
-    ap (λ (z : List ℕ). recordBytes d x ++ z) (bytes-append d rs r) ∙ sym (append-assoc (recordBytes d x) (recordsBytes d rs) (recordBytes d r))
+-- records and then others
+pub bytes-append : (d : ℕ) (rs ss : List Record) → recordsBytes d (rs ++ ss) ≡ recordsBytes d rs ++ recordsBytes d ss
+bytes-append d [] ss = refl
+bytes-append d (r ∷ rs) ss =
+    ap (λ (z : List ℕ). recordBytes d r ++ z) (bytes-append d rs ss) ∙ sym (append-assoc (recordBytes d r) (recordsBytes d rs) (recordsBytes d ss))
 
 pub length-records-in : (d n : ℕ) (l : List ℕ) → length (recordsIn d n l) ≡ n
 unfolding recordsIn
@@ -63,6 +63,13 @@ unfolding recordsIn
 record-in d zero i l h = absurd (omega arith)
 record-in d (suc n) zero l h = let e : recordLength d * 0 ≡ 0 = omega arith in rw e refl
 record-in d (suc n) (suc i) l h = record-in d n i (drop (recordLength d) l) (omega arith) ∙ ap (frontRecord d) (further d i l)
+
+-- the first records are the first of more
+pub records-take : (d i n : ℕ) (l : List ℕ) → i ≤ n → recordsIn d i l ≡ take i (recordsIn d n l)
+unfolding recordsIn
+records-take d zero n l h = refl
+records-take d (suc i) zero l h = absurd (omega arith)
+records-take d (suc i) (suc n) l h = ap (λ (rs : List Record). frontRecord d l ∷ rs) (records-take d i n (drop (recordLength d) l) (omega arith))
 
 -- the records come back from their bytes, whatever follows
 pub records-back : (d : ℕ) (rs : List Record) (rest : List ℕ) → AllNarrow (suc d) rs → recordsIn (suc d) (length rs) (recordsBytes (suc d) rs ++ rest) ≡ rs

@@ -10,6 +10,7 @@ pub mod StoreLaws
 pub mod Transfer
 pub mod Conditions
 pub mod RefusalLaws
+pub mod WholeLaws
 pub mod RoundTrips
 pub mod RoundTripLaws
 pub mod Code

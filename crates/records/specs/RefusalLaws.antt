@@ -31,14 +31,14 @@ true-known long e = go (eqb long (recordLength earlierDuvWidth)) (eqb long (reco
     go false true x y h = of-20 (eqb-true long (recordLength duvWidth) y)
     go false false x y h = absurd (false≢true h)
 
-known-false : (long : ℕ) → (Known long → ⊥) → knownLength long ≡ false
+pub known-false : (long : ℕ) → (Known long → ⊥) → knownLength long ≡ false
 known-false long h = go (knownLength long) refl
   where
     go : (b : Bool) → knownLength long ≡ b → b ≡ false
     go true e = absurd (h (true-known long e))
     go false e = refl
 
-false-known : (long : ℕ) → knownLength long ≡ false → Known long → ⊥
+pub false-known : (long : ℕ) → knownLength long ≡ false → Known long → ⊥
 false-known long e k = false≢true (sym e ∙ known-true long k)
 
 -- a record of known length is as long as the width of its Duv says

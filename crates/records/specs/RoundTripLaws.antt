@@ -1,25 +1,24 @@
 -- A list comes back from the file that is written of it, and a file from the list that is read from it: the proofs.
 use mathlib.Core.Path.{_≡_, refl, sym, ap, subst, _∙_}
-use mathlib.Core.Bool.{Bool, true, false}
 use mathlib.Core.List.{List, [], _∷_, append-nil}
-use Prim.Native.Nat.{ℕ, zero, suc, _+_, _-_, _*_, _/_, _≤_, _<_}
+use Prim.Native.Nat.{ℕ, zero, suc, _+_, _-_, _*_, _≤_, _<_}
 use native.Mathlib.Omega.{arith}
-use lib.Dec.{ltb}
 use lib.IntN.{ℤ, pos, negsuc}
-use lib.ListN.{length, take, drop, getD, length-append, length-drop, take-append-drop, List·getD-eq-default}
+use lib.ListN.{length, take, drop, getD, length-append, length-drop, take-append-drop}
 use lib.Seq.{take-all, take-at, drop-at}
-use borrow.Author.Tests.{ltb-true, ltb-false, lt-ltb, le-ltb}
+use borrow.Author.Tests.{le-ltb}
 use Rattle.records.specs.Bytes.{pack, unpack}
 use Rattle.records.specs.BytesLaws.{Fit, none, next, Bytes, Holds, bytes-drop, unpack-pack, pack-unpack}
-use Rattle.records.specs.Fields.{duvWidth, earlierDuvWidth, recordLength, duvWidthOf, frontRecord}
+use Rattle.records.specs.Fields.{duvWidth, earlierDuvWidth, recordLength, duvWidthOf}
 use Rattle.records.specs.FieldsLaws.{Narrow, front-narrow}
-use Rattle.records.specs.Files.{mostRecords, mostWritten, mostRead, trailerWidths, trailerLength, trailerBytes, recordsBytes, fileOf, fileLength, recordsIn, zeroRecord, recordAt, trailerNumbers, recordLengthIn, duvWidthIn, countIn, backIn, sizedForm, formOf, formRecords, recordsOf}
-use Rattle.records.specs.FilesLaws.{AllNarrow, empty, first, length-file, length-records-in, record-in, records-back, bytes-back}
+use Rattle.records.specs.Files.{mostRecords, mostWritten, mostRead, trailerWidths, trailerLength, trailerBytes, recordsBytes, fileOf, fileLength, recordsIn, wholeRecords, zeroRecord, recordAt, trailerNumbers, recordLengthIn, duvWidthIn, countIn, backIn, sizedForm, formOf, formRecords, recordsOf}
+use Rattle.records.specs.FilesLaws.{AllNarrow, empty, first, length-file, length-records-in, records-back, bytes-back}
 use Rattle.records.specs.Columns.{Columns, sizeOf, rows, listOf, over, filled, firstRows}
 use Rattle.records.specs.ColumnsLaws.{length-list, filled-level, level-size, filled-rows, first-size, first-list}
 use Rattle.records.specs.Transfer.{writeOutcome, readOutcome}
 use Rattle.records.specs.Conditions.{Known, of-18, of-20, Readable}
-use Rattle.records.specs.RefusalLaws.{known-true, known-width, most-read, readable-form, clear-write, write-done, clear-read, read-done}
+use Rattle.records.specs.RefusalLaws.{known-width, most-read, readable-form, clear-write, write-done, clear-read, read-done}
+use Rattle.records.specs.WholeLaws.{record-at-whole, whole-count}
 use Rattle.records.specs.RoundTrips.{SameList, ReadsBack, FileOfRecords, ColumnsBack, FileAgain, Rewritten}
 use Rattle.records.specs.declared.fields.Record.{Record}
 use Rattle.records.specs.declared.files.Form.{Form}
@@ -121,45 +120,16 @@ written-read l b k =
 pub byte-for-byte : (l : List ℕ) → recordLengthIn l ≡ recordLength duvWidth → fileOf (duvWidthIn l) (recordsOf l) ≡ l → fileOf duvWidth (recordsOf l) ≡ l
 byte-for-byte l e same = ap (λ (n : ℕ). fileOf (duvWidthOf n) (recordsOf l)) (sym e) ∙ same
 
--- how many records are whole in a file that can be read
-whole-within : (long n size i : ℕ) → Known long → size ≡ long * n + trailerLength → i < n → i < size / long
-whole-within long n size i (of-18 e) h l = let s : size ≡ 18 * n + trailerLength = h ∙ rw e refl in rw e (omega arith)
-whole-within long n size i (of-20 e) h l = let s : size ≡ 20 * n + trailerLength = h ∙ rw e refl in rw e (omega arith)
+-- its records are those that are whole in its bytes
+readable-whole : (l : List ℕ) → Readable l → recordsOf l ≡ wholeRecords (recordLengthIn l) l
+readable-whole l k =
+    readable-records l k
+    ∙ ap (λ (n : ℕ). recordsIn (duvWidthIn l) n l) (sym (whole-count (recordLengthIn l) (countIn l) (length l) (k .trailed .record-length) (k .agrees .exact ∙ ap (λ (m : ℕ). m + trailerLength) (k .agrees .back))))
 
-whole-beyond : (long n size i : ℕ) → Known long → size ≡ long * n + trailerLength → n ≤ i → size / long ≤ i
-whole-beyond long n size i (of-18 e) h l = let s : size ≡ 18 * n + trailerLength = h ∙ rw e refl in rw e (omega arith)
-whole-beyond long n size i (of-20 e) h l = let s : size ≡ 20 * n + trailerLength = h ∙ rw e refl in rw e (omega arith)
-
-module _ (l : List ℕ) (i : ℕ) (k : Readable l) where
-  end-is : length l ≡ recordLengthIn l * countIn l + trailerLength
-  end-is = k .agrees .exact ∙ ap (λ (m : ℕ). m + trailerLength) (k .agrees .back)
-
-  listed : getD (recordsOf l) i zeroRecord ≡ getD (recordsIn (duvWidthIn l) (countIn l) l) i zeroRecord
-  listed = ap (λ (rs : List Record). getD rs i zeroRecord) (readable-records l k)
-
-  record-within : i < countIn l → recordAt (recordLengthIn l) l i ≡ getD (recordsOf l) i zeroRecord
-  unfolding recordAt
-  record-within h =
-      let long = recordLengthIn l in
-      let known = k .trailed .record-length in
-      rw (known-true long known, lt-ltb i (length l / long) (whole-within long (countIn l) (length l) i known end-is h))
-      (ap (λ (m : ℕ). frontRecord (duvWidthIn l) (drop (m * i) l)) (sym (known-width long known)) ∙ sym (record-in (duvWidthIn l) (countIn l) i l h) ∙ sym listed)
-
-  record-beyond : countIn l ≤ i → recordAt (recordLengthIn l) l i ≡ getD (recordsOf l) i zeroRecord
-  unfolding recordAt
-  record-beyond h =
-      let long = recordLengthIn l in
-      let known = k .trailed .record-length in
-      rw (known-true long known, le-ltb i (length l / long) (whole-beyond long (countIn l) (length l) i known end-is h))
-      (sym (List·getD-eq-default (recordsOf l) zeroRecord (omega (arith, length-records l k))))
-
-  -- record i of the bytes of a file that can be read is element i of its list, and beyond the list there are zeros
-  pub readable-record : recordAt (recordLengthIn l) l i ≡ getD (recordsOf l) i zeroRecord
-  readable-record = go (ltb i (countIn l)) refl
-    where
-      go : (b : Bool) → ltb i (countIn l) ≡ b → recordAt (recordLengthIn l) l i ≡ getD (recordsOf l) i zeroRecord
-      go true e = record-within (ltb-true i (countIn l) e)
-      go false e = record-beyond (ltb-false i (countIn l) e)
+-- so record i of its bytes is element i of its list, and beyond the list there are zeros
+pub readable-record : (l : List ℕ) (i : ℕ) → Readable l → recordAt (recordLengthIn l) l i ≡ getD (recordsOf l) i zeroRecord
+readable-record l i k =
+    record-at-whole (recordLengthIn l) l i (k .trailed .record-length) ∙ ap (λ (rs : List Record). getD rs i zeroRecord) (sym (readable-whole l k))
 
 narrow-in : (d n : ℕ) (l : List ℕ) → Bytes l → AllNarrow (suc d) (recordsIn (suc d) n l)
 unfolding recordsIn
@@ -178,11 +148,12 @@ pub all-wider : (rs : List Record) → AllNarrow earlierDuvWidth rs → AllNarro
 all-wider [] empty = empty
 all-wider (r ∷ rs) (first n ns) = first (wider-record r n) (all-wider rs ns)
 
-known-narrow : (long n : ℕ) (l : List ℕ) → Known long → Bytes l → AllNarrow duvWidth (recordsIn (duvWidthOf long) n l)
+-- records of a length that is read are no wider than the fields of those that are written
+pub known-narrow : (long n : ℕ) (l : List ℕ) → Known long → Bytes l → AllNarrow duvWidth (recordsIn (duvWidthOf long) n l)
 known-narrow long n l (of-18 e) b = rw e (all-wider (recordsIn earlierDuvWidth n l) (narrow-in 1 n l b))
 known-narrow long n l (of-20 e) b = rw e (narrow-in 3 n l b)
 
--- records that are read are no wider than the fields of the records that are written
+-- and so are those of a file
 pub read-narrow : (l : List ℕ) → Bytes l → Readable l → AllNarrow duvWidth (recordsOf l)
 read-narrow l b k = rw (readable-records l k) (known-narrow (recordLengthIn l) (countIn l) l (k .trailed .record-length) b)
 

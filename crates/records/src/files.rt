@@ -42,8 +42,8 @@ pub(crate) fn put_trailer(n: usize, out: &mut [u8], at: usize)
     put_number((RECORD_LENGTH * n) as u32, 4, out, at + 4);
 }
 
-// Whether files whose records have this length are read.
-fn is_known(record_length: usize) -> bool
+// Whether records of this length are read.
+pub fn is_known_length(record_length: usize) -> bool
     ensures { λ r. ⌜ r ≡ knownLength «record_length» ⌝ }
 {
     (record_length == EARLIER_RECORD_LENGTH) | (record_length == RECORD_LENGTH)
@@ -67,7 +67,7 @@ fn trailer_form(record_length: u32, count: u32, back: u32, n: usize) -> Form
     let long = record_length as usize;
     let records = count as usize;
     let distance = back as usize;
-    if !is_known(long) {
+    if !is_known_length(long) {
         return Form::Refused(Refusal::BadRecordLength);
     }
     if !((distance == long * records) & (n == distance + TRAILER_LENGTH)) {
@@ -113,7 +113,7 @@ pub fn record_at(bytes: &[u8], record_length: usize, i: usize) -> Record
     ensures record { λ r. ⌜ r ≡ recordAt «record_length» (now (bytes .entry)) i ⌝ }
     ensures unchanged { λ _. ⌜ now (bytes .exit) ≡ now (bytes .entry) ⌝ }
 {
-    if !is_known(record_length) {
+    if !is_known_length(record_length) {
         return ZERO_RECORD;
     }
     if i < whole_records(bytes.len(), record_length) {

@@ -1,9 +1,10 @@
-// A list of records to a file, and back.
+// A list of records to a file, and back; and a file that is written record by record.
 use crate::columns::list_length;
 use crate::columns::row;
 use crate::columns::shortest;
 use crate::columns::store;
 use crate::fields::RECORD_LENGTH;
+use crate::fields::Record;
 use crate::fields::put_record;
 use crate::fields::record_from;
 use crate::files::Form;
@@ -13,14 +14,14 @@ use crate::files::check_form;
 use crate::files::put_trailer;
 use refusal::Refusal;
 ghost use mathlib.Core.Path.{_≡_};
-ghost use Prim.Native.Nat.{_+_, _*_, _≤_};
+ghost use Prim.Native.Nat.{_*_, _≤_};
 ghost use lib.ListN.{length};
 ghost use lib.Seq.{sets};
 ghost use Rattle.records.specs.Fields.{duvWidth, recordLength, duvWidthOf};
 ghost use Rattle.records.specs.Files.{recordsBytes, recordsIn};
 ghost use Rattle.records.specs.FilesLaws.{AllNarrow};
 ghost use Rattle.records.specs.Columns.{columns, sizeOf, rows, listOf, filled};
-ghost use Rattle.records.specs.Transfer.{writeOutcome, written, readOutcome, readInto};
+ghost use Rattle.records.specs.Transfer.{writeOutcome, hasRecordRoom, storedInto, closedInto, written, readOutcome, readInto};
 ghost use Rattle.records.specs.Conditions.{Known};
 ghost use Rattle.records.specs.RoundTrips.{ReadsBack, FileOfRecords};
 
@@ -28,6 +29,46 @@ ghost use Rattle.records.specs.RoundTrips.{ReadsBack, FileOfRecords};
 pub enum Outcome {
     Refused(Refusal),
     Done(usize),
+}
+
+// What the writing of n records into so much room comes to.
+pub fn check_room(n: usize, room: usize) -> Outcome
+    ensures { λ r. ⌜ r ≡ writeOutcome n room ⌝ }
+{
+    if MOST_WRITTEN < n {
+        return Outcome::Refused(Refusal::TooManyRecords);
+    }
+    let size = RECORD_LENGTH * n + TRAILER_LENGTH;
+    if room < size {
+        return Outcome::Refused(Refusal::NoRoom);
+    }
+    Outcome::Done(size)
+}
+
+// Writes record i of a file, from 0, at its place; answers whether the target has room for it, and writes nothing where it has none.
+pub fn store_record(r: Record, i: usize, file: &mut [u8]) -> bool
+    ensures room { λ b. ⌜ b ≡ hasRecordRoom i (now (file .entry)) ⌝ }
+    ensures target { λ _. ⌜ now (file .exit) ≡ storedInto i r (now (file .entry)) ⌝ }
+{
+    if i < file.len() / RECORD_LENGTH {
+        put_record(r, file, RECORD_LENGTH * i);
+        return true;
+    }
+    false
+}
+
+// Writes the trailer after the first n records of a file.
+pub fn close_file(n: usize, file: &mut [u8]) -> Outcome
+    ensures outcome { λ r. ⌜ r ≡ writeOutcome n (length (now (file .entry))) ⌝ }
+    ensures target { λ r. ⌜ now (file .exit) ≡ closedInto r n (now (file .entry)) ⌝ }
+{
+    match check_room(n, file.len()) {
+        Outcome::Refused(refusal) => Outcome::Refused(refusal),
+        Outcome::Done(end) => {
+            put_trailer(n, file, RECORD_LENGTH * n);
+            Outcome::Done(end)
+        }
+    }
 }
 
 // The records in the first n rows, from the first byte on.
@@ -73,17 +114,13 @@ pub fn write_records(
     ensures back { λ r. ⌜ ReadsBack r (listOf (columns (now (u .entry)) (now (v .entry)) (now (place .entry)) (now (low .entry)) (now (high .entry)) (now (duv .entry)) (now (steps .entry)) (now (class .entry)))) ⌝ }
 {
     let n = list_length(u, v, place, low, high, duv, steps, class);
-    if MOST_WRITTEN < n {
-        return Outcome::Refused(Refusal::TooManyRecords);
+    match check_room(n, file.len()) {
+        Outcome::Refused(refusal) => Outcome::Refused(refusal),
+        Outcome::Done(_) => {
+            put_rows(n, u, v, place, low, high, duv, steps, class, file);
+            close_file(n, file)
+        }
     }
-    let records_end = RECORD_LENGTH * n;
-    let end = records_end + TRAILER_LENGTH;
-    if file.len() < end {
-        return Outcome::Refused(Refusal::NoRoom);
-    }
-    put_rows(n, u, v, place, low, high, duv, steps, class, file);
-    put_trailer(n, file, records_end);
-    Outcome::Done(end)
 }
 
 // The first n records of the file, which have this length, into the first n rows.

@@ -16,7 +16,7 @@ use Rattle.records.proofs.files.record_at.Statement.{statement}
 use Rattle.records.proofs.files.record_at.Tie as tie
 
 is-true : (s : tie.Else1) → knownLength (s .before .before .before .args .record-length) ≡ true
-is-true s = sym (s .before .is-known .ensures) ∙ not-false _ (s .if1 .left)
+is-true s = sym (s .before .is-known-length .ensures) ∙ not-false _ (s .if1 .left)
 
 known : (s : tie.Else1) → Known (s .before .before .before .args .record-length)
 known s = true-known (s .before .before .before .args .record-length) (is-true s)
@@ -28,11 +28,11 @@ within s = subst (λ (n : ℕ). s .before .before .before .before .before .args 
 ends : (s : tie.Then2) → s .before .before .before .before .before .args .record-length * s .before .before .before .before .before .args .i + s .before .before .before .before .before .args .record-length ≤ length (s .before .before .before .before .before .args .bytes .now)
 ends s = row-within (s .before .before .before .before .before .args .record-length) (s .before .before .before .before .before .args .i) _ _ (within s) (mul-div-le (length (s .before .before .before .before .before .args .bytes .now)) (s .before .before .before .before .before .args .record-length))
 
-is-known-requires : tie.Need-is-known-requires
-is-known-requires c κs = search needs
+is-known-length-requires : tie.Need-is-known-length-requires
+is-known-length-requires c κs = search needs
 
 returns : tie.Need-returns
-returns c = (at-unknown (c .before .before .before .args .record-length) (c .before .before .before .args .bytes .now) (c .before .before .before .args .i) (sym (c .before .is-known .ensures) ∙ not-true _ (c .if1 .taken)), refl)
+returns c = (at-unknown (c .before .before .before .args .record-length) (c .before .before .before .args .bytes .now) (c .before .before .before .args .i) (sym (c .before .is-known-length .ensures) ∙ not-true _ (c .if1 .taken)), refl)
 
 whole-records-requires : tie.Need-whole-records-requires
 whole-records-requires c κs = known (c)
@@ -54,7 +54,7 @@ pub record-at-spec : {M : Type 1} → statement M
 record-at-spec =
     tie.close
     (tie.spec
-    is-known-requires
+    is-known-length-requires
     returns
     whole-records-requires
     mul-record-from

@@ -12,13 +12,13 @@ use Rattle.records.proofs.files.trailer_form.Statement.{statement}
 use Rattle.records.proofs.files.trailer_form.Tie as tie
 
 is-true : (s : tie.Else1) → knownLength (s .before .before .args .record-length) ≡ true
-is-true s = sym (s .before .is-known .ensures) ∙ not-false _ (s .if1 .left)
+is-true s = sym (s .before .is-known-length .ensures) ∙ not-false _ (s .if1 .left)
 
-is-known-requires : tie.Need-is-known-requires
-is-known-requires c κs = search needs
+is-known-length-requires : tie.Need-is-known-length-requires
+is-known-length-requires c κs = search needs
 
 returns : tie.Need-returns
-returns c = wrong-length (c .before .before .args .record-length) (c .before .before .args .count) (c .before .before .args .back) (c .before .before .args .n) (sym (c .before .is-known .ensures) ∙ not-true _ (c .if1 .taken))
+returns c = wrong-length (c .before .before .args .record-length) (c .before .before .args .count) (c .before .before .args .back) (c .before .before .args .n) (sym (c .before .is-known-length .ensures) ∙ not-true _ (c .if1 .taken))
 
 mul-if2 : tie.Need-mul-if2
 mul-if2 c = omega (arith, within-word (c .before .before .args .record-length) (c .before .before .args .count) (true-known (c .before .before .args .record-length) (is-true c)) (omega (arith, c .before .before .fits .count)))
@@ -46,7 +46,7 @@ pub trailer-form-spec : {M : Type 1} → statement M
 trailer-form-spec =
     tie.close
     (tie.spec
-    is-known-requires
+    is-known-length-requires
     returns
     mul-if2
     add-if2

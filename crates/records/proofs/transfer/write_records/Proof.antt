@@ -1,8 +1,12 @@
--- `write_records` meets its contract: the tests in their order, then the rows and the trailer, by the laws of Transfers.
-use mathlib.Core.Path.{_≡_, refl}
+-- `write_records` meets its contract: the room is checked, then the rows and the trailer are put, by the laws of Transfers.
+use mathlib.Core.Path.{_≡_, refl, sym, _∙_}
 use native.Mathlib.Omega.{arith}
-use Rattle.records.specs.Columns.{Columns, columns, sizeOf}
-use Rattle.records.proofs.Transfers.{many-written, short-written, done-written, target-written, back-written}
+use lib.ListN.{length}
+use Rattle.records.specs.Columns.{Columns, columns}
+use Rattle.records.specs.Transfer.{writeOutcome}
+use Rattle.records.specs.RefusalLaws.{write-done}
+use Rattle.records.specs.declared.transfer.Outcome.the-variants.{Done}
+use Rattle.records.proofs.Transfers.{room-of-list, list-written}
 use borrow.Author.Needs.{needs}
 use Rattle.records.proofs.transfer.write_records.Statement.{statement}
 use Rattle.records.proofs.transfer.write_records.Tie as tie
@@ -11,69 +15,51 @@ use Rattle.records.proofs.transfer.write_records.Tie as tie
 abbrev given : tie.Start → Columns
 given s = columns (s .args .u .now) (s .args .v .now) (s .args .place .now) (s .args .low .now) (s .args .high .now) (s .args .duv .now) (s .args .steps .now) (s .args .class .now)
 
-size : (s : tie.After-list-length) → s .list-length .result ≡ sizeOf (given (s .before .before .before .before .before .before .before .before .before))
-size s = s .list-length .ensures .0
+room : (s : tie.After-enum-told) → writeOutcome (s .before .before .before .list-length .result) (length (s .before .before .before .before .before .before .before .before .before .before .before .before .args .file .now)) ≡ Done (s .enum-told .given .0 .0)
+room s = sym (s .before .before .check-room .ensures) ∙ s .enum-told .given .1
 
 list-length-requires : tie.Need-list-length-requires
 list-length-requires c κs = search needs
 
-returns : tie.Need-returns
-returns c =
-    let after-length = c .before in
-    let start = after-length .before .before .before .before .before .before .before .before .before in
-    (many-written (given start) (after-length .list-length .result) (size after-length) (start .args .file .now) (c .if1 .taken), (refl, (refl, tt)))
+check-room-requires : tie.Need-check-room-requires
+check-room-requires c κs = search needs
 
-mul-records-end : tie.Need-mul-records-end
-mul-records-end c = search needs
+enum-known-refusal : tie.Need-enum-known-refusal
+enum-known-refusal c = search needs
 
-add-end : tie.Need-add-end
-add-end c = search needs
-
-returns-2 : tie.Need-returns-2
-returns-2 c =
-    let else1 = c .before in
-    let after-length = else1 .before in
-    let start = after-length .before .before .before .before .before .before .before .before .before in
-    (short-written (given start) (after-length .list-length .result) (size after-length) (start .args .file .now) (else1 .if1 .left) (c .if2 .taken), (refl, (refl, tt)))
+enum-told : tie.Need-enum-told
+enum-told c = search needs
 
 put-rows-requires : tie.Need-put-rows-requires
-put-rows-requires c κs = (omega (arith, size (c .before .before .before)), omega (arith, c .before .if2 .left))
+put-rows-requires c κs = let k = write-done (c .before .before .before .before .list-length .result) (length (c .before .before .before .before .before .before .before .before .before .before .before .before .before .args .file .now)) (c .before .enum-told .given .0 .0) (room (c .before)) in
+    (omega (arith, c .before .before .before .before .list-length .ensures .0), omega (arith, k .1))
 
-put-trailer-requires : tie.Need-put-trailer-requires
-put-trailer-requires c κs = search needs
+close-file-requires : tie.Need-close-file-requires
+close-file-requires c κs = search needs
+
+returns : tie.Need-returns
+returns c = (sym (c .before .refusal .given .1) ∙ c .before .before .before .check-room .ensures ∙ room-of-list (given (c .before .before .before .before .before .before .before .before .before .before .before .before .before)) (c .before .before .before .before .list-length .result) (c .before .before .before .before .list-length .ensures .0) (c .before .before .before .before .before .before .before .before .before .before .before .before .before .args .file .now), (refl, (refl, tt)))
 
 same-length : tie.Need-same-length
 same-length c = search needs
 
-returns-3 : tie.Need-returns-3
-returns-3 c =
-    let after-put-trailer = c .before .before in
-    let after-put-rows = after-put-trailer .before .before .before .before in
-    let else2 = after-put-rows .before .before in
-    let else1 = else2 .before in
-    let after-length = else1 .before in
-    let start = after-length .before .before .before .before .before .before .before .before .before in
-    let rows-put = after-put-rows .put-rows .ensures in (
-      done-written (given start) (after-length .list-length .result) (size after-length) (start .args .file .now) (else1 .if1 .left) (else2 .if2 .left),
-      (
-        target-written (given start) (after-length .list-length .result) (size after-length) (start .args .file .now) (else2 .if2 .left) (rows-put .0) (after-put-trailer .put-trailer .ensures),
-        (
-          refl,
-          back-written (given start) (after-length .list-length .result) (size after-length) (start .args .file .now) (else1 .if1 .left) (rows-put .1),
-        ),
-      ),
-    )
+returns-2 : tie.Need-returns-2
+returns-2 c =
+    let rows-put = c .before .before .before .before .before .before .put-rows in
+    let closed = c .before .before .close-file .ensures in
+    let all = list-written (given (c .before .before .before .before .before .before .before .before .before .before .before .before .before .before .before .before .before .before .before .before)) (c .before .before .before .before .before .before .before .before .before .before .before .list-length .result) (c .before .before .before .before .before .before .before .before .before .before .before .list-length .ensures .0) (c .before .before .before .before .before .before .before .before .before .before .before .before .before .before .before .before .before .before .before .before .args .file .now) (c .before .before .before .before .before .before .before .before .enum-told .given .0 .0) (room (c .before .before .before .before .before .before .before .before)) (rows-put .kept .1 .1 .1 .1 .1 .1 .1 .1 .1 .0) (rows-put .ensures .0) (rows-put .ensures .1) (closed .0) (closed .1) in
+    (all .0, (all .1, (refl, all .2)))
 
 pub write-records-spec : {M : Type 1} → statement M
 write-records-spec =
     tie.close
     (tie.spec
     list-length-requires
-    returns
-    mul-records-end
-    add-end
-    returns-2
+    check-room-requires
+    enum-known-refusal
+    enum-told
     put-rows-requires
-    put-trailer-requires
+    close-file-requires
+    returns
     same-length
-    returns-3)
+    returns-2)
