@@ -1,5 +1,5 @@
 /* Cradlekeel: the correlated colour temperature, Duv and temperature class of one colour reading, files of such answers, the differences
- * of two such files, and a board on which the answers are assigned to jobs.
+ * of two such files, what can be salvaged of a broken one, and a board on which the answers are assigned to jobs.
  *
  * Build the library with `make lib`, and again after `.ci/run`, which empties target/; link target/lib/libcradlekeel.a, or
  * target/lib/libcradlekeel.so with -Wl,-rpath,"$PWD/target/lib". From examples/lamp.c, a whole program:
@@ -14,7 +14,7 @@
  * (crates/cct_c and the crates below it):
  *   - it returns, and what it returns is the answer that the definitions give (README.md lists them in their order);
  *   - it writes nothing through a pointer to const;
- *   - a target (any other pointer: to a file to be written, columns to be read into, a list of differences) gets all that belongs there;
+ *   - a target (any other pointer: to a file to be written, columns to be read into, a list to be made) gets all that belongs there;
  *   - on a refusal a target gets nothing, and beyond what is written it always keeps what it held.
  * The functions keep nothing between calls and allocate nothing, so threads may call them at the same time.
  *
@@ -52,16 +52,16 @@ enum {
     CK_TOO_COOL = 7           /* beyond the locus's 1600 K end */
 };
 
-/* Why a record file was not written or not read, or two were not compared: the value of `refusal` in ck_done and ck_compared. Of this
- * list too the first that applies is given; writing can meet the last two only, and comparing goes through the first four for each
- * file. */
+/* Why a record file was not written or not read, two were not compared, or one was not salvaged: the value of `refusal` in ck_done,
+ * ck_compared and ck_salvaged. Of this list too the first that applies is given; writing can meet the last two only, comparing goes
+ * through the first four for each file, and salvaging can meet CK_BAD_EDGES, then the second and the last two. */
 enum {
     CK_NO_TRAILER = 13,        /* the file has fewer than 8 bytes */
-    CK_BAD_RECORD_LENGTH = 14, /* the record length in its trailer is neither 18 nor 20 */
+    CK_BAD_RECORD_LENGTH = 14, /* the record length in its trailer, or the one to salvage by, is neither 18 nor 20 */
     CK_BAD_TRAILER = 15,       /* the trailer's distance is not its record length for each record of its count, or the file has more
                                   or fewer bytes than these records and the trailer */
-    CK_TOO_MANY_RECORDS = 11,  /* there are more than 3,200 records to write, or in a file whose records have 20 bytes, or more than
-                                  3,600 in one whose records have 18 */
+    CK_TOO_MANY_RECORDS = 11,  /* there are more than 3,200 records to write or to keep, or in a file whose records have 20 bytes, or
+                                  more than 3,600 in one whose records have 18 */
     CK_NO_ROOM = 12            /* a target is too small; one that is just large enough is taken */
 };
 
@@ -253,6 +253,35 @@ typedef struct ck_compared {
  * second; CK_NO_ROOM (`room` is less than the numbers to write), which is of neither file. */
 ck_compared ck_compare_files(const uint8_t *first, size_t first_length, const uint8_t *second, size_t second_length, int64_t *target,
                              size_t room);
+
+/* --- Salvage of a broken file ----------------------------------------------------------------------------------------------
+ *
+ * A file that was left without its trailer, as by a full disk, cannot be read. Its records may still be there: from the first byte on the
+ * bytes are taken as records of one length, as many as are whole. A record is kept exactly when it is what this library answers now:
+ * ck_read_micro accepts its u and v with these edges and as many steps as the record says, and the answer's place, low, high, Duv, steps
+ * and class are the record's. So a record with over 14 steps is never kept, nor is one that was made with edges that give it another
+ * class, or by a Cradlekeel whose answers were others. Every other record is dropped, and its number is listed. Whoever does not know the
+ * record length calls with 20 and with 18 and takes the one that keeps more; CK_TOO_MANY_RECORDS counts as more than any. docs/FILES.md
+ * tells what to do with dropped records, and examples/salvage.c is a whole program. */
+
+/* What a salvage came to. `kept` + `dropped` is how many whole records there are. */
+typedef struct ck_salvaged {
+    size_t kept;     /* records in the new file */
+    size_t dropped;  /* numbers in the list */
+    size_t leftover; /* bytes after the last whole record; of a file that is not broken, by its own record length, the 8 of its trailer */
+    uint8_t refusal; /* 0 salvaged; else the refusal's number, and the counts are 0 */
+} ck_salvaged;
+
+/* Takes `length` bytes, which may be more than any record file has, as records of `record_length` bytes, 18 or 20. Writes the kept ones to
+ * `file`: a whole record file with records of 20 bytes, in their order, and a trailer, 20 * `kept` + 8 bytes. Lists the numbers of the
+ * dropped ones in `dropped`: counted from 0 among the whole records, rising. What both targets hold beyond that, up to their rooms, stays.
+ *
+ * `file_room` counts bytes and `dropped_room` numbers. Where `bytes` has n whole records, `length` / `record_length`, 20 * n + 8 bytes and n
+ * numbers always suffice, and CK_LARGEST_FILE bytes do for any n. Exactly what is written suffices too: 8 bytes where nothing is kept.
+ * Refusals, in this order: CK_BAD_EDGES; CK_BAD_RECORD_LENGTH (`record_length` is neither 18 nor 20); CK_TOO_MANY_RECORDS (over 3,200
+ * would be kept); CK_NO_ROOM (for the file or for the list). Then neither target has changed. */
+ck_salvaged ck_salvage(const uint8_t *bytes, size_t length, size_t record_length, const uint32_t *edges, size_t edge_count, uint8_t *file,
+                       size_t file_room, uint64_t *dropped, size_t dropped_room);
 
 /* --- The board -----------------------------------------------------------------------------------------------------------
  *

@@ -20,7 +20,7 @@ sys.dont_write_bytecode = True
 from check_trace import TRACE, named_functions
 from rattle_source import functions, functions_of, library_crates
 
-ENTRY_CRATES = ("board", "cct", "cct_c", "compare", "kept", "records", "text")
+ENTRY_CRATES = ("board", "cct", "cct_c", "compare", "kept", "records", "salvage", "text")
 
 # Functions with a `requires`, and why.
 REQUIRES = {
@@ -41,10 +41,14 @@ PROMISES = {
                                "as of records::read_records"),
     "cct_c::ck_write_records": (BESIDE, f"λ _. ⌜ ReadsBack (writeOutcome (sizeOf {COLUMNS_GIVEN}) (length (now (file .entry)))) "
                                 f"(listOf {COLUMNS_GIVEN}) ⌝", "as of records::write_records"),
+    "cct_c::ck_salvage": (BESIDE, "λ _. ⌜ KeptBack (salvageOutcome (now (edges .entry)) «record_length» (now (bytes .entry)) (length (now (file .entry))) "
+                          "(length (now (dropped .entry)))) (now (edges .entry)) «record_length» (now (bytes .entry)) ⌝", "as of salvage::salvage"),
     "records::read_records": (BESIDE, "λ r. ⌜ FileOfRecords r (now (file .entry)) ⌝",
                               "what `written-read` says of a list of bytes, for the machine's: no hypothesis is left"),
     "records::write_records": (BESIDE, f"λ r. ⌜ ReadsBack r (listOf {COLUMNS_GIVEN}) ⌝",
                                "what `read-written` says of a list of records, for the machine's numbers: no hypothesis is left"),
+    "salvage::salvage": (BESIDE, "λ r. ⌜ KeptBack r (now (edges .entry)) «record_length» (now (bytes .entry)) ⌝",
+                         "what `kept-back` says of a list of bytes, for the machine's: no hypothesis is left"),
     "text::block": (INSTEAD, "λ r. ⌜ Blocked scan (now (input .entry)) (now (out .entry)) (now (out .exit)) r ⌝",
                     "the record Blocked gives every field, and the whole buffer, by an equation each"),
     "text::finish": (INSTEAD, "λ r. ⌜ Wrote 0 (now (out .entry)) (now (out .exit)) r (closes scan) ⌝",

@@ -24,15 +24,22 @@ static uint8_t byte_of(const char *digits) {
     return (uint8_t)strtoul(both, NULL, 16);
 }
 
-/* `file HEX..`, the words after the first: words of bytes, and `HHxK` for K times a byte. How many bytes there are is the answer shown. */
+/* Puts the bytes that digits write down so many times, one after the other. How many bytes that makes. */
+static size_t put_repeated(uint8_t *to, const char *digits, size_t bytes, size_t times) {
+    for (size_t i = 0; i < bytes * times; i++) to[i] = i < bytes ? byte_of(digits + 2 * i) : to[i - bytes];
+    return bytes * times;
+}
+
+/* `file HEX..`, the words after the first: words of bytes, and `HEXxK` for K times such a word. How many bytes there are is the answer
+ * shown. */
 static lent_file hold_file(const region *r, char *shown) {
     static uint8_t made[MOST_BYTES];
     size_t count = 0;
     for (const char *word; (word = next_word());) {
-        size_t times = strchr(word, 'x') ? strtoul(strchr(word, 'x') + 1, NULL, 10) : 0;
-        if (times > MOST_BYTES - count || strlen(word) / 2 > MOST_BYTES - count) exit(2);
-        if (times) memset(made + count, byte_of(word), times), count += times;
-        for (; !times && *word; word += 2) made[count++] = byte_of(word);
+        const char *mark = strchr(word, 'x');
+        size_t bytes = (mark ? (size_t)(mark - word) : strlen(word)) / 2, times = mark ? strtoul(mark + 1, NULL, 10) : 1;
+        if (bytes > 0 && times > (MOST_BYTES - count) / bytes) exit(2);
+        count += put_repeated(made + count, word, bytes, times);
     }
     sprintf(shown, "%zu\n", count);
     return lend_file(r, made, count);

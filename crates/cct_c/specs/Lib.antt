@@ -1,3 +1,4 @@
 pub mod Plain
 pub mod PlainBoards
 pub mod PlainComparison
+pub mod PlainSalvage

@@ -2,6 +2,7 @@
 mod boards;
 mod comparison;
 mod files;
+mod salvaging;
 
 use cct::FloatAnswer;
 use reading::Reading;
