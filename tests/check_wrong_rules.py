@@ -5,9 +5,9 @@
 The first six are the mistakes that document 01 warns of; the others are near misses that its rules, and those of document 02,
 leave room for. Those of spectral samples are tried on the vectors of samples, those of the locus on the vectors of places and of
 the search, those of record files on the vectors of record files, those of the root on the vectors of roots, those of boards on the
-vectors of boards, those of comparisons on the vectors of comparisons, those of the text program on the first lines of its committed
-input, then on more, and at last on all of it, and the others on the vectors of none of these. A wrong rule with which the reference
-cannot go on shows nothing, and ends the check."""
+vectors of boards, those of comparisons on the vectors of comparisons, those of salvage on the vectors of salvage, those of the text
+program on the first lines of its committed input, then on more, and at last on all of it, and the others on the vectors of none of
+these. A wrong rule with which the reference cannot go on shows nothing, and ends the check."""
 
 import re
 import sys
@@ -29,6 +29,8 @@ import record_files
 import record_lines
 import reference as ref
 import root_cases
+import salvage_lines
+import salvages
 import sample_cases
 import sample_lists
 import vectors
@@ -40,6 +42,7 @@ from wrong_compare_rules import WRONG_COMPARE_RULES, WRONG_FORM_RULES
 from wrong_locus_rules import WRONG_LOCUS_RULES, halves_down
 from wrong_record_rules import WRONG_RECORD_RULES
 from wrong_root_rules import WRONG_ROOT_RULES, rounded_to_nearest
+from wrong_salvage_rules import WRONG_SALVAGE_RULES
 from wrong_sample_rules import WRONG_SAMPLE_RULES
 
 CRATES = Path(__file__).resolve().parent.parent / "crates"
@@ -236,31 +239,34 @@ WRONG_TEXT_RULES = (
 
 
 def forget():
-    """Nothing that the reference has worked out before is used again."""
-    for item in vars(ref).values():
+    """Nothing that was worked out of the reference before is used again."""
+    for item in (*vars(ref).values(), *vars(salvages).values()):
         if hasattr(item, "cache_clear"):
             item.cache_clear()
 
 
 @contextmanager
 def put_in(part, name, wrong):
-    """The reference, or its part for record files, boards or comparisons, with one wrong rule."""
+    """The reference, or its part for record files, boards, comparisons or salvage, with one wrong rule. What is worked out of the reference
+    uses none of those parts."""
     right = getattr(part, name)
     setattr(part, name, wrong)
-    forget()
+    if part is ref:
+        forget()
     try:
         yield
     finally:
         setattr(part, name, right)
-        forget()
+        if part is ref:
+            forget()
 
 
 PLACE_KINDS = ("point", "points")
 
 
 def shown(line, held):
-    """A vector's line; for spectral samples the lists that it is about too, and for record files, boards and comparisons the columns
-    and the files."""
+    """A vector's line; for spectral samples the lists that it is about too, and for record files, boards, comparisons and salvage the
+    columns and the files."""
     kind, about = vectors.kind_of(line), []
     if kind in sample_cases.KINDS:
         about = [text.removeprefix("list ") for text in sample_lists.changes(sample_lists.Lists(), held)]
@@ -336,10 +342,11 @@ def main():
     of_roots = of_kinds(committed, lambda kind: kind in root_cases.KINDS)
     of_boards = of_kinds(committed, lambda kind: kind in board_cases.KINDS)
     of_comparisons = of_kinds(committed, lambda kind: kind in compare_lines.KINDS)
+    of_salvages = of_kinds(committed, lambda kind: kind in salvage_lines.KINDS)
     apart = (*PLACE_KINDS, *sample_cases.KINDS, *root_cases.KINDS, *vectors.FILE_KINDS)
     others = of_kinds(committed, lambda kind: kind not in apart)
     assert first_caught_text(texts) is None, "the right rules give another output"
-    apart_from_others = of_samples + of_locus + of_files + of_roots + of_boards + of_comparisons
+    apart_from_others = of_samples + of_locus + of_files + of_roots + of_boards + of_comparisons + of_salvages
     assert first_caught(apart_from_others) is None, "the right rules give another answer"
     missed = missed_of(WRONG_RULES + WRONG_BELOW_ZERO_RULES, lambda: first_caught(others))
     missed += missed_of(WRONG_LOCUS_RULES, lambda: first_caught(of_locus))
@@ -348,11 +355,12 @@ def main():
     missed += missed_of(WRONG_ROOT_RULES, lambda: first_caught(of_roots))
     missed += missed_of(WRONG_BOARD_RULES, lambda: first_caught(of_boards), board_table)
     missed += missed_of(WRONG_COMPARE_RULES + WRONG_FORM_RULES, lambda: first_caught(of_comparisons), file_differences)
+    missed += missed_of(WRONG_SALVAGE_RULES, lambda: first_caught(of_salvages), salvages)
     missed += missed_of(WRONG_TEXT_RULES, lambda: first_caught_text(texts))
     if missed:
         sys.exit("check_wrong_rules: not caught: " + ", ".join(missed))
     groups = (WRONG_RULES, WRONG_BELOW_ZERO_RULES, WRONG_LOCUS_RULES, WRONG_SAMPLE_RULES, WRONG_RECORD_RULES, WRONG_ROOT_RULES,
-              WRONG_BOARD_RULES, WRONG_COMPARE_RULES, WRONG_FORM_RULES, WRONG_TEXT_RULES)
+              WRONG_BOARD_RULES, WRONG_COMPARE_RULES, WRONG_FORM_RULES, WRONG_SALVAGE_RULES, WRONG_TEXT_RULES)
     print("check_wrong_rules: all %d wrong rules are caught" % sum(map(len, groups)))
 
 

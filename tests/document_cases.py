@@ -1,5 +1,5 @@
 """Document 01's own cases, typed in from the document and never from our program's output: the listing, the (P) cases and the
-"Also run" list; and cases of document 02's No. 1 to 4 and 6 to 8, worked out apart from the reference. `check()` holds it to them all."""
+"Also run" list; and cases of document 02's No. 1 to 4 and 6 to 9, worked out apart from the reference. `check()` holds it to them all."""
 
 from fractions import Fraction
 from itertools import product
@@ -8,6 +8,7 @@ import board_table
 import file_differences
 import record_files
 import reference as ref
+import salvages
 from floats import NEGATIVE_INFINITY, QUIET_NAN, nearest_f32
 
 # Lines 3 and 4 look between entries: their Duv, -2331 and -2061, are those of document 02's No. 3, by Lagrange's form. Lines 6 to 8
@@ -211,6 +212,54 @@ UNCOMPARED_FILES = (
     (BENCH_FILE, EMPTY_FILE, 0, (0, 12)),
 )
 
+# Records of 20 bytes: lines 1 to 3 of the listing; line 8, which is refused, with the fields of line 7 and its own distance; lines 9
+# and 10, which are refused too, with fields of zeros.
+LAMP, TINTED = DESK_FILE[:60], DESK_FILE[60:120]
+STEPPED = "a4 58 03 00 bc fd 04 00 48 5a 84 55 3a 5d e5 f6 ff ff 02 02 "
+FAR = "ee 43 05 00 01 bd 04 00 58 fc 40 f2 58 fc af 3c ff ff 00 00 "
+HOT, COOL = "d8 ca 02 00 20 36 04 00 " + "00 " * 12, "90 47 05 00 5c 80 05 00 " + "00 " * 12
+LAMP_FILE, TWO_STEPS_FILE = LAMP + "14 00 01 00 14 00 00 00", LAMP + STEPPED + "14 00 02 00 28 00 00 00"
+
+# Bytes, their record length, the edges, the new file, the numbers of the dropped records, and how many bytes are left over. Under the
+# edges 1600 and 20001 alone no class of lines 1 to 3 is that of the listing: all of them are 0.
+SALVAGED_FILES = (
+    ("", 20, ref.TEXT_EDGES, EMPTY_FILE, (), 0),
+    ("", 18, GOOD_EDGES, EMPTY_FILE, (), 0),
+    (DESK_FILE, 20, ref.TEXT_EDGES, DESK_FILE, (), 8),
+    (EARLIER_DESK_FILE, 18, ref.TEXT_EDGES, DESK_FILE, (), 8),
+    (DESK_FILE[:39 * 3], 20, ref.TEXT_EDGES, LAMP_FILE, (), 19),
+    (EARLIER_DESK_FILE[:35 * 3], 18, ref.TEXT_EDGES, LAMP_FILE, (), 17),
+    (DESK_FILE, 20, GOOD_EDGES, EMPTY_FILE, (0, 1), 8),
+    (LAMP[:19 * 3] + "00", 20, GOOD_EDGES, LAMP[:19 * 3] + "00 " + LAMP_FILE[60:], (), 0),
+    (BENCH_FILE, 20, ref.TEXT_EDGES, LAMP_FILE, (1, 2), 8),
+    (EARLIER_BENCH_FILE, 18, ref.TEXT_EDGES, LAMP_FILE, (1, 2), 8),
+    (RECORD_FILES[3][1], 20, ref.TEXT_EDGES, RECORD_FILES[3][1], (), 8),
+    (CUT_FILE, 18, ref.TEXT_EDGES, EMPTY_FILE, (0,), 8),
+    (LAMP + STEPPED, 20, ref.TEXT_EDGES, TWO_STEPS_FILE, (), 0),
+    (STEPPED[:18 * 3] + "0e 02 " + LAMP + STEPPED, 20, ref.TEXT_EDGES, TWO_STEPS_FILE, (0,), 0),
+    (LAMP + TINTED[:18 * 3] + "0f ff " + FAR + HOT + STEPPED + COOL + "00 " * 19, 20, ref.TEXT_EDGES, TWO_STEPS_FILE, (1, 2, 3, 5), 19),
+    (DESK_FILE, 18, ref.TEXT_EDGES, EMPTY_FILE, (0, 1), 12),
+    (EARLIER_DESK_FILE, 20, ref.TEXT_EDGES, EMPTY_FILE, (0, 1), 4),
+)
+
+# Bytes, a record length, edges, the rooms of both targets, and the refusal's number, 0 where they are salvaged.
+UNSALVAGED_FILES = (
+    (DESK_FILE, 19, (5000,), 0, 0, 1),
+    (DESK_FILE, 20, (5000, 5000), 48, 0, 1),
+    (DESK_FILE, 19, ref.TEXT_EDGES, 48, 0, 14),
+    ("", 0, ref.TEXT_EDGES, 8, 0, 14),
+    (LAMP * 3201, 19, ref.TEXT_EDGES, 0, 0, 14),
+    (LAMP * 3201, 20, (), 0, 0, 1),
+    (LAMP * 3201, 20, ref.TEXT_EDGES, 0, 0, 11),
+    (LAMP * 3201, 20, ref.TEXT_EDGES, 64_028, 9, 11),
+    (LAMP * 3200 + HOT, 20, ref.TEXT_EDGES, 64_008, 1, 0),
+    (LAMP * 3200 + HOT, 20, ref.TEXT_EDGES, 64_007, 1, 12),
+    (LAMP * 3200 + HOT, 20, ref.TEXT_EDGES, 64_008, 0, 12),
+    (HOT * 3601, 20, ref.TEXT_EDGES, 8, 3601, 0),
+    (HOT * 3601, 20, ref.TEXT_EDGES, 8, 3600, 12),
+    ("", 20, ref.TEXT_EDGES, 7, 0, 12),
+)
+
 # How many records, and the refusal's number, 0 where a board of as many lots is loaded.
 LOADS = ((0, 0), (1, 0), (63, 0), (64, 0), (65, 16), (3600, 16))
 
@@ -354,6 +403,19 @@ def check_comparisons():
         assert found == (which, refusal, 0, (7,) * room), (one[-23:], other[-23:], found)
 
 
+def check_salvages():
+    for text, length, edges, file, dropped, leftover in SALVAGED_FILES:
+        data, new = bytes.fromhex(text), bytes.fromhex(file)
+        for more in (0, 1, 30):
+            found = salvages.salvage_into(b"." * (len(new) + more), (7,) * (len(dropped) + more), data, length, edges)
+            counts = 0, len(new) // 20, len(dropped), leftover
+            assert found == (counts, new + b"." * more, dropped + (7,) * more), (text, length, found)
+    for text, length, edges, file_room, list_room, refusal in UNSALVAGED_FILES:
+        targets = b"." * file_room, (7,) * list_room
+        (found, *_), *after = salvages.salvage_into(*targets, bytes.fromhex(text), length, edges)
+        assert found == refusal and (found == 0 or tuple(after) == targets), (text[-23:], length, file_room, list_room, found)
+
+
 def check_board():
     for count, refusal in LOADS:
         board, told = board_table.load([(1,) * 8] * count)
@@ -385,5 +447,6 @@ def check():
     check_record_files()
     check_targets()
     check_comparisons()
+    check_salvages()
     check_board()
     check_last_stamps()

@@ -1,4 +1,4 @@
-"""Random and damaged record files, most of them nearly good, for fuzz_files and fuzz_compares."""
+"""Random and damaged record files, most of them nearly good, for fuzz_files, fuzz_compares and fuzz_salvages."""
 
 from record_cases import LENGTHS, MOST, TRAILER, damaged, trailer, with_trailer
 

@@ -46,12 +46,22 @@ def column_line(letter, numbers):
     return " ".join(["column", letter, *run_texts(numbers)])
 
 
-def file_line(file):
+def words_of(data):
     """Hexadecimal bytes in one word, but HHxK for four or more equal ones."""
+    runs = ((byte, len(list(equal))) for byte, equal in groupby(data))
+    return "".join(" %02xx%d " % run if run[1] > 3 else "%02x" % run[0] * run[1] for run in runs).split()
+
+
+def file_line(file):
     assert len(file) <= MOST_BYTES
-    runs = ((byte, len(list(equal))) for byte, equal in groupby(file))
-    words = "".join(" %02xx%d " % run if run[1] > 3 else "%02x" % run[0] * run[1] for run in runs)
-    return " ".join(["file", *words.split()])
+    return " ".join(["file", *words_of(file)])
+
+
+def repeats_line(parts):
+    """The `file` line of some bytes after one another, each so many times: HEXxK where that is more than once."""
+    assert sum(len(data) * times for data, times in parts) <= MOST_BYTES
+    words = (["%sx%d" % (data.hex(), times)] if times > 1 else words_of(data) for data, times in parts if data)
+    return " ".join(["file", *(word for each in words for word in each)])
 
 
 def write_line(room):
@@ -89,8 +99,8 @@ def changes(held, wanted):
 
 def bytes_of(words):
     """The bytes that the words of a `file` line write."""
-    runs = (re.fullmatch("(..)x([0-9]+)|((?:..)+)", word) for word in words)
-    return b"".join(bytes.fromhex(run[3]) if run[3] else bytes.fromhex(run[1]) * int(run[2]) for run in runs)
+    runs = (re.fullmatch("((?:[0-9a-f]{2})+)(?:x([0-9]+))?", word) for word in words)
+    return b"".join(bytes.fromhex(run[1]) * int(run[2] or 1) for run in runs)
 
 
 def held_after(line, held):

@@ -11,13 +11,16 @@ import core_cases
 import record_cases
 import record_lines
 import root_cases
+import salvage_cases
+import salvage_lines
 import sample_cases
 import sample_lists
 
 SECTIONS = (convert_cases, core_cases, answer_cases, sample_cases, below_zero_cases, record_cases, root_cases, board_cases,
-            compare_cases)
+            compare_cases, salvage_cases)
 CORE_KINDS = ("point", "points", "entry", "search", "class", "edges")
-FILE_KINDS = record_cases.KINDS + board_cases.KINDS + compare_lines.KINDS  # those that are about the columns and the files held
+# Those that are about the columns and the files held.
+FILE_KINDS = record_cases.KINDS + board_cases.KINDS + compare_lines.KINDS + salvage_lines.KINDS
 
 
 def kind_of(line):
@@ -31,8 +34,8 @@ def lines():
 
 
 def with_held(lines):
-    """Each line with what is held when it is answered: for record files, boards and comparisons the columns and the files, for any
-    other line the four lists of samples and tables."""
+    """Each line with what is held when it is answered: for record files, boards, comparisons and salvage the columns and the files, for
+    any other line the four lists of samples and tables."""
     lists, files = sample_lists.Lists(), record_lines.Held()
     for line in lines:
         if kind_of(line) in FILE_KINDS:
@@ -51,6 +54,8 @@ def expected(line, held):
         return board_lines.expected(line, held)
     if kind in compare_lines.KINDS:
         return compare_lines.expected(line, held)
+    if kind in salvage_lines.KINDS:
+        return salvage_lines.expected(line, held)
     if kind in sample_cases.KINDS:
         return sample_cases.expected(line, held)
     if kind in CORE_KINDS:

@@ -10,6 +10,7 @@ use crate::lists;
 use crate::lists::Lists;
 use crate::parts;
 use crate::put;
+use crate::salvages;
 use crate::samples;
 
 // The command words, by their ASCII bytes.
@@ -50,6 +51,8 @@ const BOARD: u64 = 0x626f617264;
 const FIRST: u64 = 0x6669727374;
 
 const COMPARE: u64 = 0x636f6d70617265;
+
+const SALVAGE: u64 = 0x73616c76616765;
 
 // A command of decimal numbers, or a conversion.
 fn run(
@@ -150,6 +153,7 @@ fn run_text(
         BOARD => boards::history(text, lists, out, at),
         FIRST => replace_first(lists, file, out, at),
         COMPARE => compare(values[0], lists, file, out, at),
+        SALVAGE => salvages::salvage(files::held(file, length), text, values, count, out, at),
         _ => run(command, values, count, lists, out, at),
     }
 }

@@ -1,9 +1,8 @@
 // Comparisons: the differences of the first file and the file that is held, listed in a target.
-use crate::parts;
 use crate::put;
+use crate::targets;
 use compare::Compared;
 use refusal::Refusal;
-ghost use Prim.Native.Nat.{_<_};
 
 // The most numbers of a target: 64 more than 28,800 entries take, and two files have no more differences.
 const LIST_ROOM: usize = 115264;
@@ -30,22 +29,13 @@ fn bits_64(z: i64) -> u64 {
     z as u64
 }
 
-// A checksum with the lower 32 bits of a number, and then the upper ones.
-fn with_bits(sum: u64, bits: u64) -> u64
-    requires { ⌜ sum < 4294967291 ⌝ }
-    ensures { λ r. ⌜ r < 4294967291 ⌝ }
-{
-    let lower = parts::with_number(sum, (bits % 4294967296) as u32);
-    parts::with_number(lower, (bits / 4294967296) as u32)
-}
-
 // The checksum of a target, as far as its room goes.
 fn sum_list(target: &Target, room: u32) -> u64 {
     let count = arith::lesser(room as usize, LIST_ROOM);
     let mut sum: u64 = 0;
     let mut i = 0;
     while i < count {
-        sum = with_bits(sum, bits_64(target[i]));
+        sum = targets::with_bits(sum, bits_64(target[i]));
         i += 1;
     }
     sum

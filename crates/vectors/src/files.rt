@@ -67,20 +67,6 @@ fn add(file: &mut File, length: u32, byte: u8) -> u32
     length + 1
 }
 
-// Adds a byte several times.
-fn add_run(file: &mut File, length: u32, byte: u8, times: u32) -> u32
-    requires { ⌜ length ≤ 1310720 ⌝ }
-    ensures { λ r. ⌜ r ≤ 1310720 ⌝ }
-{
-    let mut end = length;
-    let mut left = times;
-    while left > 0 {
-        end = add(file, end, byte);
-        left -= 1;
-    }
-    end
-}
-
 // Adds the bytes of a word of hexadecimal digits.
 fn add_pairs(file: &mut File, length: u32, word: &[u8]) -> u32
     requires { ⌜ length ≤ 1310720 ⌝ }
@@ -96,21 +82,34 @@ fn add_pairs(file: &mut File, length: u32, word: &[u8]) -> u32
     end
 }
 
-// Adds the bytes of a word: hexadecimal digits, or `HHxK` for K times the byte HH.
+// Adds the bytes of a word of hexadecimal digits several times.
+fn add_run(file: &mut File, length: u32, word: &[u8], times: u32) -> u32
+    requires { ⌜ length ≤ 1310720 ⌝ }
+    ensures { λ r. ⌜ r ≤ 1310720 ⌝ }
+{
+    let mut end = length;
+    let mut left = times;
+    while left > 0 {
+        end = add_pairs(file, end, word);
+        left -= 1;
+    }
+    end
+}
+
+// Adds the bytes of a word: hexadecimal digits, or `HEXxK` for K times the bytes HEX.
 fn add_word(file: &mut File, length: u32, word: &[u8]) -> u32
     requires { ⌜ length ≤ 1310720 ⌝ }
     ensures { λ r. ⌜ r ≤ 1310720 ⌝ }
 {
     let start = 0;
     let end = fields::find(word, start, b'x');
+    let digits = &word[start..end];
     if end < word.len() {
-        if end == 2 {
-            let next = end + 1;
-            let times = fields::decimal(&word[next..]);
-            return add_run(file, length, fields::byte_of(word[0], word[1]), times);
-        }
+        let next = end + 1;
+        let times = fields::decimal(&word[next..]);
+        return add_run(file, length, digits, times);
     }
-    add_pairs(file, length, word)
+    add_pairs(file, length, digits)
 }
 
 // Replaces the file by the words of a text, each with a space before it; answers how many bytes it then has.

@@ -10,6 +10,7 @@ mod files;
 mod lists;
 mod parts;
 mod put;
+mod salvages;
 mod samples;
 mod targets;
 

@@ -5,10 +5,10 @@ use Rattle.vectors.proofs.files.add_run.Statement.{statement}
 use Rattle.vectors.proofs.files.add_run.Tie as tie
 
 abbrev Inv-loop : tie.InvT-loop
-Inv-loop file₀ length byte times end₀ left₀ file end left = end ≤ 1310720
+Inv-loop file₀ length word times end₀ left₀ file end left = end ≤ 1310720
 
 abbrev μ-loop : tie.MeasureT-loop
-μ-loop file₀ length byte times end₀ left₀ file end left = left
+μ-loop file₀ length word times end₀ left₀ file end left = left
 
 pub add-run-spec : {M : Type 1} → statement M
 add-run-spec =
