@@ -1,5 +1,5 @@
-"""Runs the vectors of answers, of record files, of their differences and of boards of tests/make_vectors.py through python/cradlekeel,
-that package's own examples, and examples/.
+"""Runs the vectors of answers, of record files, of their differences, of salvages and of boards of tests/make_vectors.py through
+python/cradlekeel, that package's own examples, and examples/.
 
     python3 tests/abi_test.py               (tests/run-abi calls it, with the programs of examples/ compiled to target/abi/)
     python3 tests/abi_test.py --self-test   what needs no library: that its absence is said, how spectra are scaled, which records do
@@ -32,6 +32,7 @@ import cradlekeel._library
 import readme_commands
 import record_test
 import reference
+import salvage_test
 import spectrum_test
 import vectors
 from worded import spectrum_answer, table, worded
@@ -130,7 +131,7 @@ def check_missing_library():
                              (here, f"{root / here} has no function ck_")):
             ran = run_python(["-c", call], named, root)
             assert ran.returncode == 1 and "cradlekeel.LibraryMissing" in ran.stderr and words in ran.stderr, ran.stderr
-            for command, files in (("spectrum", 1), ("show", 1), ("board", 1), ("compare", 2)):
+            for command, files in (("spectrum", 1), ("show", 1), ("board", 1), ("compare", 2), ("salvage", 2)):
                 ran = run_python(["-m", "cradlekeel", command, *files * [str(ROOT / "examples/incandescent.csv")]], named, root)
                 assert (ran.returncode, ran.stdout, ran.stderr.count("\n")) == (2, "", 1) and words in ran.stderr, ran
 
@@ -225,6 +226,7 @@ def self_test():
         assert statuses == {0, 1}, "the lamps, and the blackbodies, should have both answers and refusals"
     record_test.self_test()
     compare_test.self_test()
+    salvage_test.self_test()
     board_test.self_test()
     scaled, blocks, commands = spectrum_test.self_test(), check_documents(), readme_commands.self_test()
     print(f"abi_test.py: {len(LAMPS)} lamps and {len(BLACKBODIES)} blackbodies computed, {scaled} spectra scaled; {blocks} blocks and "
@@ -235,7 +237,7 @@ def doctests():
     """The examples of the package's own documentation, by name. A public class is asked for its methods, since it is named by the package
     and stands in a module of it, so that neither of the two is asked for them."""
     finder, classes = doctest.DocTestFinder(), [item for item in map(cradlekeel.__dict__.get, cradlekeel.__all__) if isinstance(item, type)]
-    modules = cradlekeel, cradlekeel.readings, cradlekeel.records, cradlekeel.differences, cradlekeel.spectra
+    modules = cradlekeel, cradlekeel.readings, cradlekeel.records, cradlekeel.differences, cradlekeel.salvages, cradlekeel.spectra
     found = [test for module in modules for test in finder.find(module)]
     found += [test for item in classes for test in finder.find(item, f"cradlekeel.{item.__name__}", False, vars(cradlekeel))]
     return {test.name: test for test in found}
@@ -257,14 +259,14 @@ def main():
         sys.exit(__doc__)
     count = run_vectors()
     check_whole_numbers()
-    spectra, files, pairs, boards = spectrum_test.run(), record_test.run(), compare_test.run(), board_test.run()
+    spectra, files, pairs, salvages, boards = (part.run() for part in (spectrum_test, record_test, compare_test, salvage_test, board_test))
     check_lamps()
     check_blackbodies()
     blocks, commands = check_documents(), readme_commands.run(with_library=True)
     failed, attempted = run_doctests()
-    print(f"abi_test.py: {count} vectors of answers, {files} of record files, each by C and by Python, {pairs} of comparisons and {boards} of "
-          f"boards by Python; {spectra} spectra; {attempted} examples, {failed} failures; {len(LAMPS)} lamps by each of two programs and "
-          f"{len(BLACKBODIES)} blackbodies; {blocks} blocks and {commands} commands of the pages")
+    print(f"abi_test.py: {count} vectors of answers, {files} of record files, each by C and by Python, {pairs} of comparisons, {salvages} of "
+          f"salvages and {boards} of boards by Python; {spectra} spectra; {attempted} examples, {failed} failures; {len(LAMPS)} lamps by each "
+          f"of two programs and {len(BLACKBODIES)} blackbodies; {blocks} blocks and {commands} commands of the pages")
     sys.exit(failed != 0)
 
 

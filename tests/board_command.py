@@ -6,7 +6,6 @@ import _ctypes
 import codecs
 import os
 import pty
-import resource
 import signal
 import subprocess
 import sys
@@ -14,7 +13,7 @@ import termios
 
 import board_table
 import record_files
-from command_runs import COMMAND, PATIENCE, ROOT, Copy, check, expect, run, shell
+from command_runs import COMMAND, PATIENCE, ROOT, Copy, check, expect, no_large_files, run, shell
 from dice import Dice
 from kept import shown
 
@@ -343,12 +342,6 @@ def check_input(folder):
     expect("a pipe that has nothing more yet and does not wait", ran, answers, no_read + b"Resource temporarily unavailable\n", 1)
     os.close(read_end)
     os.close(write_end)
-
-
-def no_large_files():
-    """Has a write beyond 20 bytes fail, as it does on a full disk."""
-    signal.signal(signal.SIGXFSZ, signal.SIG_IGN)
-    resource.setrlimit(resource.RLIMIT_FSIZE, (20, 20))
 
 
 def check_output(folder):

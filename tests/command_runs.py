@@ -1,7 +1,10 @@
-"""Runs of bin/cradlekeel and what is expected of them, for tests/run-program: in the repository, and in copies with a stand-in for rt."""
+"""Runs of bin/cradlekeel and what is expected of them, for tests/run-program: in the repository, and in copies with a stand-in for rt; and a
+full disk, for the programs of examples/ too."""
 
 import os
+import resource
 import shutil
+import signal
 import subprocess
 import sys
 from pathlib import Path
@@ -33,6 +36,12 @@ def run(words=(), text=b"", command=COMMAND, patience=PATIENCE, **options):
 def shell(script, text=b"", **options):
     """A run by a line of bash in which $0 is the command."""
     return run(["-c", f"set -o pipefail; {script}", str(COMMAND)], text, "bash", **options)
+
+
+def no_large_files():
+    """Has a write beyond 20 bytes fail, as it does on a full disk."""
+    signal.signal(signal.SIGXFSZ, signal.SIG_IGN)
+    resource.setrlimit(resource.RLIMIT_FSIZE, (20, 20))
 
 
 # Stands for rt in a copy: `rt check cradlekeel` links PROGRAM, unless its stamp says that it is proved, and

@@ -4,15 +4,13 @@ What is expected of two files is what the second program lists, in the words of 
 
 import _ctypes
 import os
-import resource
-import signal
 import subprocess
 import sys
 from itertools import product
 
 import file_differences
 import record_cases
-from command_runs import COMMAND, PATIENCE, ROOT, Copy, check, expect, run, shell
+from command_runs import COMMAND, PATIENCE, ROOT, Copy, check, expect, no_large_files, run, shell
 from dice import Dice
 from kept import shown_class
 from record_cases import EARLIER, LENGTHS, MOST
@@ -278,12 +276,6 @@ def check_missing_files(folder):
 
 
 # --- Output that fails ------------------------------------------------------------------------------------------------
-
-
-def no_large_files():
-    """Has a write beyond 20 bytes fail, as it does on a full disk."""
-    signal.signal(signal.SIGXFSZ, signal.SIG_IGN)
-    resource.setrlimit(resource.RLIMIT_FSIZE, (20, 20))
 
 
 def check_output(folder):

@@ -14,10 +14,10 @@ ROOT = Path(__file__).resolve().parent.parent
 FENCE = re.compile(r"^ *```.*?^ *```[^\n]*$", re.MULTILINE | re.DOTALL)
 INDENT, PROMPT = "    ", "$ "
 NEEDS_LIBRARY = re.compile(
-    r"\b(?:gcc|g\+\+|python3|target/lib|target/lamp|target/samples|target/\w+\.rec|cradlekeel (?:board|compare|save|show|spectrum))(?![\w-])")
+    r"\b(?:gcc|g\+\+|python3|target/lib|target/lamp|target/samples|target/\w+\.rec|cradlekeel (?:board|compare|salvage|save|show|spectrum))(?![\w-])")
 LEFT_OUT = ("make lib", ".ci/run")  # tests/run-abi and the gate run these themselves
 PAGES = ("README.md", "docs/FILES.md", "docs/BOARD.md")
-SAVING = (*PAGES, "examples/board.c", "examples/compare.c")  # what tells to save files, the examples in a comment
+SAVING = (*PAGES, "examples/board.c", "examples/compare.c", "examples/salvage.c")  # what tells to save files, the examples in a comment
 FEWEST = 3  # on each page
 PATIENCE = 120  # seconds that one command may take
 
@@ -135,6 +135,7 @@ A sentence with `$ false`, and a block.
     $ gcc --version && target/lamp
     $ bin/cradlekeel spectrum lamp.csv
     $ bin/cradlekeel compare bench.rec desk.rec
+    $ bin/cradlekeel salvage broken.rec new.rec
     $ printf '1 2\\n' | bin/cradlekeel save day.rec
     $ od target/day.rec
     $ bin/cradlekeel board day.rec <<'END'
@@ -156,8 +157,8 @@ def self_test():
     """The sample is read as it should be, and a wrong output, a wrong status, two files of one name and a command without an end are
     found."""
     found = commands(SAMPLE)
-    assert [len(command.shown) for command in found] == [2, 0, 3, 0, 0, 0, 0, 0, 1], found
-    assert [command.needs_library for command in found] == 3 * [False] + 6 * [True], found
+    assert [len(command.shown) for command in found] == [2, 0, 3, 0, 0, 0, 0, 0, 0, 1], found
+    assert [command.needs_library for command in found] == 3 * [False] + 7 * [True], found
     assert [fault(command) for command in found[:3]] == [None, None, None], found
     assert fault(found[0]._replace(shown=("c",))) and fault(found[2]._replace(text="echo d"))
     assert fault(Command("false", ()))

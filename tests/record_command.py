@@ -11,8 +11,10 @@ from pathlib import Path
 
 import record_files
 import reference as ref
+import write_faults
 from command_runs import COMMAND, PATIENCE, PROGRAM, ROOT, Copy, check, expect, run, shell
 from kept import file_of, kept_of, shown
+from write_faults import OLD, Writing, holds, left_alone
 
 sys.path.insert(0, str(ROOT / "python"))
 from cradlekeel import REASONS
@@ -20,7 +22,6 @@ from cradlekeel import REASONS
 LINES = b"219300 327100 0\n219300 327100 2\n0 0\n12 x\n\n183000 276000\n255910 349510"
 ANSWERS = ref.answer_text(LINES)
 FILE = file_of(LINES)
-OLD = b"what stood there before"
 
 
 def save(*words, text=LINES, **options):
@@ -34,16 +35,6 @@ def show(*words, text=b"", **options):
 def earlier_file(records):
     """A file from before, with records of 18 bytes."""
     return record_files.file_by(record_files.EARLIER, records)
-
-
-def holds(path):
-    """What a file holds; None where there is none."""
-    return path.read_bytes() if path.exists() else None
-
-
-def left_alone(path):
-    """What stands beside a file: nothing should."""
-    return [other.name for other in path.parent.iterdir() if other != path]
 
 
 def refused(name, number):
@@ -292,87 +283,9 @@ def check_permissions(folder):
 
 # --- Whole or not at all ----------------------------------------------------------------------------------------------
 
-# Runs the command with a fault in the system's call of a number, counted while the file is written.
-FAULTY = """
-import errno, os, signal, sys
-from cradlekeel import __main__
-from cradlekeel.commands import save
-
-at, how, refuses_links = int(sys.argv[1]), sys.argv[2], sys.argv[3] == "nolinks"
-write_whole, writing, calls = save.write_whole, False, []
-
-def faulty(name, function):
-    def call(*words, **options):
-        if writing:
-            calls.append(name)
-        if writing and len(calls) == at:
-            if how != "fail":
-                os.kill(os.getpid(), signal.SIGKILL if how == "kill" else signal.SIGTERM)
-            else:
-                raise OSError(errno.EIO, os.strerror(errno.EIO))
-        if writing and name == "link" and refuses_links:
-            raise OSError(errno.EPERM, os.strerror(errno.EPERM))
-        return function(*words, **options)
-    return call
-
-def counted(*words):
-    global writing
-    writing = True
-    try:
-        write_whole(*words)
-    finally:
-        writing = False
-
-for name in ("open", "write", "fchmod", "fsync", "close", "link", "replace", "unlink"):
-    setattr(os, name, faulty(name, getattr(os, name)))
-save.write_whole = counted
-status = __main__.main(sys.argv[4:])
-if len(calls) < at:
-    sys.exit("no fault in " + " ".join(calls))
-sys.exit(status or "no word of " + calls[at - 1])
-"""
-NO_FAULT = b"no fault in "
-
-
-def faulty(at, how, links, words):
-    variables = {**os.environ, "PYTHONPATH": str(ROOT / "python")}
-    return run(["-B", "-c", FAULTY, str(at), how, links, "save", *words], LINES, sys.executable, env=variables)
-
 
 def check_faults(folder):
-    """Whichever call fails, and wherever it is stopped or killed, the file is as it was or whole, and no other is left."""
-    path, new, replaced = folder / "day.rec", (None, []), (OLD, ["--replace"])
-    for how, links, (before, words) in (
-            ("fail", "links", new), ("fail", "links", replaced), ("fail", "nolinks", new), ("stop", "links", new), ("stop", "links", replaced),
-            ("stop", "nolinks", new), ("kill", "links", new), ("kill", "links", replaced)):
-        for at in range(1, 99):
-            path.write_bytes(OLD) if before else path.unlink(missing_ok=True)
-            ran = faulty(at, how, links, [*words, path])
-            if ran.stderr.startswith(NO_FAULT):
-                break
-            check_fault(f"{how} at call {at}, {links}, {words}", how, ran, path, before)
-        check(f"{how}, {links}, {words}: a run without a fault is whole", holds(path) == FILE and not left_alone(path), (at, ran))
-        calls = ran.stderr.decode().removeprefix(NO_FAULT.decode()).split()
-        synced, named = calls.index("fsync"), calls.index("replace" if before or links == "nolinks" else "link")
-        check("it is synced before it has its name, and its folder then", synced < named and "fsync" in calls[named:], calls)
-
-
-def check_fault(what, how, ran, path, before):
-    """What is said of a fault, and what it leaves; only of a temporary file that cannot be removed there is no word."""
-    check(f"{what}: all answers, and a file as it was or whole", ran.stdout == ANSWERS and holds(path) in (before, FILE), ran)
-    no_word = ran.stderr == b"no word of unlink\n"
-    if no_word:
-        check(f"{what}: whole", holds(path) == FILE and len(left_alone(path)) <= 1, ran)
-    elif how == "fail":
-        told = ran.stderr.endswith(b"Input/output error\n") and ran.stderr.count(b"\n") == 1 and ran.returncode == 1
-        check(f"{what}: told", told and (holds(path) == before or b": written, but its folder could not be synced: " in ran.stderr), ran)
-    else:
-        ended = -(signal.SIGKILL if how == "kill" else signal.SIGTERM)
-        check(f"{what}: ends with no word", (ran.stderr, ran.returncode) == (b"", ended), ran)
-    for name in left_alone(path):
-        expected = how == "kill" or no_word
-        check(f"{what}: its temporary file stays only where it was killed or could not remove it", expected and name.startswith(".cradlekeel-"), name)
-        (path.parent / name).unlink()
+    write_faults.check_faults(folder, Writing(["save"], LINES, ANSWERS, b"", FILE))
 
 
 def check_full_disk(folder):
@@ -606,7 +519,7 @@ def check_usage(folder):
             check(f"{name} {words} is wrong usage", told and not ran.stdout and ran.returncode == 2, ran)
     for words, fault in (([], b"no command is named"), (["saev", "a"], b"'saev' is not a command")):
         ran = run(["-B", "-m", "cradlekeel", *words], command=sys.executable, env={**os.environ, "PYTHONPATH": str(ROOT / "python")}, cwd=folder)
-        expect(f"a command {words}", ran, b"", b"cradlekeel: " + fault + b": there are board, compare, save, show, spectrum; see cradlekeel --help\n", 2)
+        expect(f"a command {words}", ran, b"", b"cradlekeel: " + fault + b": there are board, compare, salvage, save, show, spectrum; see cradlekeel --help\n", 2)
     check("nothing is made", not os.listdir(folder), os.listdir(folder))
 
 

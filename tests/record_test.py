@@ -5,8 +5,6 @@ import array
 import mmap
 import os
 import re
-import resource
-import signal
 import subprocess
 import sys
 import tempfile
@@ -20,6 +18,7 @@ import record_cases
 import record_files
 import reference as ref
 import vectors
+from command_runs import no_large_files
 from cradlekeel import Record
 from kept import kept
 from record_calls import (GUARD, answered, c_form, c_read, c_record, c_write, expect, expected_record, python_form, python_read,
@@ -86,18 +85,25 @@ def check_record_values():
         assert f"; {bits} bits" in getattr(Record, field).__doc__, f"the text of {field} that help() shows"
 
 
-def check_let_go():
-    """What a function raises holds no bytearray: it can change its length while the exception is kept."""
-    held, calls = bytearray(99), (
-        lambda: cradlekeel.record_at(held, 9), lambda: cradlekeel.record_at(held, "1"), lambda: cradlekeel.record_at(held, 0),
-        lambda: cradlekeel.check_file(held), lambda: cradlekeel.read_records(held), lambda: cradlekeel.read_records(held, -1),
-        lambda: cradlekeel.write_records(6 * [GOOD], held), lambda: cradlekeel.write_records([GOOD._replace(u=-1)], held))
+def check_lets_go(calls, *held):
+    """What each call raises holds no bytearray: it can change its length while the exception is kept."""
     for call in calls:
         try:
             call()
         except (ValueError, TypeError, IndexError, OSError):  # Refusal is a ValueError, and a library that is missing an OSError
-            held.append(0)
-            held.pop()
+            for each in held:
+                each.append(0)
+                each.pop()
+        else:
+            raise AssertionError("nothing is raised")
+
+
+def check_let_go():
+    held, calls = bytearray(99), (
+        lambda: cradlekeel.record_at(held, 9), lambda: cradlekeel.record_at(held, "1"), lambda: cradlekeel.record_at(held, 0),
+        lambda: cradlekeel.check_file(held), lambda: cradlekeel.read_records(held), lambda: cradlekeel.read_records(held, -1),
+        lambda: cradlekeel.write_records(6 * [GOOD], held), lambda: cradlekeel.write_records([GOOD._replace(u=-1)], held))
+    check_lets_go(calls, held)
 
 
 # --- docs/FILES.md ----------------------------------------------------------------------------------------------------
@@ -342,12 +348,6 @@ def shown_record(record):
 
 def run_example(*words, **options):
     return subprocess.run([EXAMPLE, *words], capture_output=True, text=True, **options)
-
-
-def no_large_files():
-    """Has a write beyond 20 bytes fail, as it does on a full disk."""
-    signal.signal(signal.SIGXFSZ, signal.SIG_IGN)
-    resource.setrlimit(resource.RLIMIT_FSIZE, (20, 20))
 
 
 def check_example():

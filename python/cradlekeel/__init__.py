@@ -1,5 +1,6 @@
 """Correlated colour temperature, Duv and temperature class of one colour reading, answered by Cradlekeel's proved library, files of
-such answers, the differences of two such files, and a board on which the answers are assigned to jobs.
+such answers, the differences of two such files, what can be salvaged of a broken one, and a board on which the answers are assigned to
+jobs.
 
 >>> import cradlekeel
 >>> answer = cradlekeel.read_xy(0.3127, 0.3290)
@@ -29,6 +30,13 @@ True
 >>> cradlekeel.compare_files(file, other)
 [Difference(record=0, field=5, first=-2331, second=-2333)]
 
+`salvage` takes the bytes of a file that was left without its end, as by a full disk, and gives those of a new one with every record that
+is what the library answers now.
+
+>>> salvaged = cradlekeel.salvage(file[:-1], record_length=20)
+>>> salvaged.kept, salvaged.dropped, salvaged.leftover, salvaged.file == file
+(1, [], 7, True)
+
 A `Board` has up to 64 records as lots that dispatchers assign to jobs. It is a value: each call hands a board back, and with it what the
 call is told. Whoever assigns a lot names the stamp that he saw; if it is not the current one, nothing is stored and he is told.
 
@@ -48,12 +56,13 @@ from .boards import Board, Lot, Told
 from .differences import ONLY_FIRST, ONLY_SECOND, Difference, FileRefusal, compare_files
 from .readings import EDGES, REASONS, STEPS, Answer, Refusal, read_micro, read_samples, read_uv, read_uv_prime, read_xy, read_xyz
 from .records import MOST_RECORDS, MOST_WRITTEN, Record, check_file, read_records, record_at, to_bytes, write_records
+from .salvages import Salvaged, salvage
 from .spectra import BadSpectrum, BelowZero, cie_1931, read_spectrum
 
 __all__ = ["EDGES", "MOST_RECORDS", "MOST_WRITTEN", "ONLY_FIRST", "ONLY_SECOND", "REASONS", "STEPS", "Answer", "BadSpectrum", "BelowZero",
-           "Board", "Difference", "FileRefusal", "LibraryMissing", "Lot", "Record", "Refusal", "Told", "check_file", "cie_1931", "compare_files",
-           "read_micro", "read_records", "read_samples", "read_spectrum", "read_uv", "read_uv_prime", "read_xy", "read_xyz", "record_at",
-           "to_bytes", "write_records"]
+           "Board", "Difference", "FileRefusal", "LibraryMissing", "Lot", "Record", "Refusal", "Salvaged", "Told", "check_file", "cie_1931",
+           "compare_files", "read_micro", "read_records", "read_samples", "read_spectrum", "read_uv", "read_uv_prime", "read_xy", "read_xyz",
+           "record_at", "salvage", "to_bytes", "write_records"]
 
-for _public in (Answer, BadSpectrum, BelowZero, Board, Difference, FileRefusal, LibraryMissing, Lot, Record, Refusal, Told):
+for _public in (Answer, BadSpectrum, BelowZero, Board, Difference, FileRefusal, LibraryMissing, Lot, Record, Refusal, Salvaged, Told):
     _public.__module__ = __name__  # a traceback names them as their users do, as in cradlekeel.Refusal

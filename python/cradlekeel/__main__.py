@@ -11,6 +11,7 @@ from .commands import ANSWERED, FAILED, NOT_RUN, BadFile, Failed, HelpAsked, Wro
 COMMANDS = {  # a module of cradlekeel.commands for each
     "board": "a board of the lots in a record file, run by commands",
     "compare": "the differences of two record files, one to a line",
+    "salvage": "what can be kept of a broken record file, in a new one",
     "save": "the answers to lines, kept in a record file too",
     "show": "the records of record files, one to a line",
     "spectrum": "the temperature, Duv and class of spectra in a meter's files",

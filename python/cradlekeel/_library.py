@@ -48,6 +48,12 @@ class Compared(ctypes.Structure):
     _fields_ = [("count", ctypes.c_size_t), ("refusal", ctypes.c_uint8), ("file", ctypes.c_uint8)]
 
 
+class SalvageCounts(ctypes.Structure):
+    """`ck_salvaged` of include/cradlekeel.h."""
+
+    _fields_ = [("kept", ctypes.c_size_t), ("dropped", ctypes.c_size_t), ("leftover", ctypes.c_size_t), ("refusal", ctypes.c_uint8)]
+
+
 class Kept(ctypes.Structure):
     """`ck_kept` of include/cradlekeel.h."""
 
@@ -94,6 +100,7 @@ _FUNCTIONS = {
     "ck_write_records": ([*_COLUMNS, *_TARGET], Done), "ck_read_records": ([*_FILE, *_COLUMNS], Done), "ck_check_file": (_FILE, Done),
     "ck_record_at": ([*_FILE, ctypes.c_size_t], StoredRecord), "ck_record_of": ([ctypes.c_uint32, ctypes.c_uint32, WholeAnswer], Kept),
     "ck_compare_files": ([*_FILE, *_FILE, ctypes.POINTER(ctypes.c_int64), ctypes.c_size_t], Compared),
+    "ck_salvage": ([*_FILE, ctypes.c_size_t, *_LIST, *_TARGET, ctypes.POINTER(ctypes.c_uint64), ctypes.c_size_t], SalvageCounts),
     "ck_board_load": (_COLUMNS, BoardAnswer), "ck_board_read": ([StoredBoard, ctypes.c_size_t], BoardAnswer),
     "ck_board_assign": ([StoredBoard, ctypes.c_size_t, ctypes.c_uint16, ctypes.c_uint32], BoardAnswer),
 }
@@ -149,7 +156,13 @@ def _too_old(what):
 def call(name, reading, edges, steps):
     """One call of the C function `name` on a reading, its result as it is; a list among the numbers goes over with its count."""
     given = [part for item in reading for part in (_as_list(item) if isinstance(item, list) else [item])]
-    return c_function(name)(*given, *_as_list(edges), steps)
+    given += edge_list(edges)
+    return c_function(name)(*given, steps)
+
+
+def edge_list(edges):
+    """Class edges as C takes them."""
+    return _as_list([u32("an edge", edge) for edge in edges])
 
 
 def _as_list(numbers):

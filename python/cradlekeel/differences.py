@@ -5,9 +5,8 @@
 import ctypes
 from typing import NamedTuple
 
-from ._library import whole
 from .readings import Refusal
-from .records import MOST_RECORDS, Record, asked
+from .records import MOST_RECORDS, Record, asked, room_of
 
 ONLY_FIRST, ONLY_SECOND = 8, 9
 """The `field` of a record that only the first file has, and of one that only the second has."""
@@ -23,7 +22,7 @@ class FileRefusal(Refusal):
     ...     compare_files(bytes(20), b"")
     ... except FileRefusal as refusal:
     ...     print(refusal.which, refusal.number, refusal)
-    1 14 the first file: refusal 14: the file is no record file, or was cut short or added to: its last 8 bytes do not begin with a record length of 18 or 20
+    1 14 the first file: refusal 14: the record length, in the last 8 bytes of the file or to salvage by, is neither 18 nor 20: a file without one is no record file, or was cut short or added to
     """
 
     def __init__(self, which, number):
@@ -87,14 +86,13 @@ def compare_files(first, second, room=None):
     >>> compare_files(bench, desk, room=1)
     Traceback (most recent call last):
         ...
-    cradlekeel.Refusal: refusal 12: the room is too small for the file, its records or the differences
+    cradlekeel.Refusal: refusal 12: the room is too small for the file, its records, the differences or the dropped numbers
     >>> compare_files(bench, desk[:20])
     Traceback (most recent call last):
         ...
-    cradlekeel.FileRefusal: the second file: refusal 14: the file is no record file, or was cut short or added to: its last 8 bytes do not begin with a record length of 18 or 20
+    cradlekeel.FileRefusal: the second file: refusal 14: the record length, in the last 8 bytes of the file or to salvage by, is neither 18 nor 20: a file without one is no record file, or was cut short or added to
     """
-    room = MOST_DIFFERENCES if room is None else min(whole("room", room, ctypes.c_size_t), MOST_DIFFERENCES)
-    numbers = len(Difference._fields) * room
+    numbers = len(Difference._fields) * room_of("room", room, MOST_DIFFERENCES)
     target = (ctypes.c_int64 * numbers)()
     compared = asked("ck_compare_files", {"the first file": first, "the second file": second}, target, numbers)
     if compared.refusal:

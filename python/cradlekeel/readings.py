@@ -20,10 +20,10 @@ REASONS = {
     7: "the reading lies beyond the 1600 K end of the blackbody locus",
     9: "the samples, x_bar, y_bar and z_bar must be equally long, from 1 to 471 numbers each",
     10: "a sample is over 16,777,215, or a number of x_bar, y_bar or z_bar is over 4,000,000",
-    11: "there are more than 3,200 records, the most that a file holds, or more than 3,600 in one from before, with records of 18 bytes",
-    12: "the room is too small for the file, its records or the differences",
+    11: "there are more than 3,200 records to write, to keep or in a file, or more than 3,600 in one from before, with records of 18 bytes",
+    12: "the room is too small for the file, its records, the differences or the dropped numbers",
     13: "the file is too short to be a record file: it has fewer than 8 bytes",
-    14: "the file is no record file, or was cut short or added to: its last 8 bytes do not begin with a record length of 18 or 20",
+    14: "the record length, in the last 8 bytes of the file or to salvage by, is neither 18 nor 20: a file without one is no record file, or was cut short or added to",
     15: "the file was cut short, damaged or joined to another: its length, or the distance in its last 8 bytes, does not fit the count and length of its records",
     16: "there are more than 64 records, the most that a board has places for",
     17: "the board has no lot at that place; places are counted from 0",
@@ -32,8 +32,8 @@ REASONS = {
 }
 """What each refusal means. Of a reading, 9 and 10 are tested between 1 and 2, the others in the order of their numbers. 11 to 15 are
 about record files: writing tests 11 and 12, reading 13, 14, 15, 11 and 12, in this order; comparing tests as reading does, of the first
-file and then of the second, and 12 last. 16 to 19 are about boards: loading tests 16, a read 17, an assignment 17, 18 and 19; they are
-told and not raised."""
+file and then of the second, and 12 last; salvaging tests 1, 14, 11 and 12. 16 to 19 are about boards: loading tests 16, a read 17, an
+assignment 17, 18 and 19; they are told and not raised."""
 
 KELVIN_PLACES = 103_360_000  # the temperature at a place is this over the place, in kelvin
 NO_CLASS = 255
@@ -176,7 +176,7 @@ def read_samples(samples, x_bar, y_bar, z_bar, edges=EDGES, steps=STEPS):
 
 
 def _read(name, reading, edges, steps):
-    found = call(name, reading, [u32("an edge", edge) for edge in edges], u32("steps", steps))
+    found = call(name, reading, edges, u32("steps", steps))
     whole = found.whole
     if whole.refusal:
         raise Refusal(whole.refusal)

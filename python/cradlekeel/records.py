@@ -78,7 +78,7 @@ def write_records(records, target):
     >>> write_records([Record(219300, 327100, 23112, 21892, 23866, -2331, 2, 2)], target)
     Traceback (most recent call last):
         ...
-    cradlekeel.Refusal: refusal 12: the room is too small for the file, its records or the differences
+    cradlekeel.Refusal: refusal 12: the room is too small for the file, its records, the differences or the dropped numbers
     >>> write_records([Record(219300, 327100, 65536, 21892, 23866, -2331, 2, 2)], target)
     Traceback (most recent call last):
         ...
@@ -113,13 +113,13 @@ def read_records(file, room=MOST_RECORDS):
     >>> read_records(b"u,v,steps\\n")
     Traceback (most recent call last):
         ...
-    cradlekeel.Refusal: refusal 14: the file is no record file, or was cut short or added to: its last 8 bytes do not begin with a record length of 18 or 20
+    cradlekeel.Refusal: refusal 14: the record length, in the last 8 bytes of the file or to salvage by, is neither 18 nor 20: a file without one is no record file, or was cut short or added to
     >>> read_records("day.rec")
     Traceback (most recent call last):
         ...
     TypeError: a file is given by its bytes, as Path("day.rec").read_bytes() has them, not by a str
     """
-    room = min(whole("room", room, ctypes.c_size_t), MOST_RECORDS)  # no file that is read has more
+    room = room_of("room", room, MOST_RECORDS)
     columns = [(kind * room)() for _, kind in _FIELDS]
     count = _count(asked("ck_read_records", {"a file": file}, *(part for column in columns for part in (column, room))))
     return list(map(Record._make, zip(*(column[:count] for column in columns))))
@@ -175,6 +175,16 @@ def asked(name, files, *given):
         return c_function(name)(*held, *given)
     finally:
         del held
+
+
+def room_of(name, room, most):
+    """A room that the caller gives, as far as it can be needed; all that can be needed where none is given."""
+    return most if room is None else min(whole(name, room, ctypes.c_size_t), most)
+
+
+def byte_count(called, file):
+    """How many bytes a file has."""
+    return _view(called, file).nbytes
 
 
 def _view(called, file):

@@ -52,6 +52,10 @@ def shown(text):
     return ascii(text if len(text) <= 40 else text[:40] + "..")
 
 
+def counted(count, noun):
+    return f"{count} {noun}{'' if count == 1 else 's'}"
+
+
 def options_of(words, names):
     """The options among the words, by name, and the other words; a name that ends with `=` takes a value."""
     try:

@@ -15,15 +15,16 @@ NO_SYNC = {errno.EACCES, errno.EINVAL, errno.EOPNOTSUPP}  # of a folder that may
 EXISTS = "the file exists; --replace replaces it"
 
 
-def check_place(name, replace):
-    """Whether a file could be put there, asked before the work that makes it."""
+def check_place(name, replace, read=None):
+    """Whether a file could be put there, asked before the work that makes it; `read` has the names of files that are only read, each with
+    what a message calls it."""
     folder = os.path.dirname(os.path.realpath(name)) if replace else os.path.dirname(name) or "."
     if not os.path.basename(name):
         raise BadFile(f"{name}: it is a folder")
     with named(name):
         old = found_at(name)
         if old is not None:
-            check_old(name, old, replace)
+            check_old(name, old, replace, read or {})
         elif os.path.lexists(name) and not replace:  # a link to nothing
             raise BadFile(f"{name}: {EXISTS}")
         if found_at(folder) is None:
@@ -32,20 +33,26 @@ def check_place(name, replace):
             raise BadFile(f"{name}: no file can be made in its folder")
 
 
-def check_old(name, old, replace):
+def check_old(name, old, replace, read):
     """Whether a file that exists may be replaced: a file of its own, which the caller may write, and not one that is in use here."""
     if stat.S_ISDIR(old.st_mode):
         raise BadFile(f"{name}: it is a folder")
     if not stat.S_ISREG(old.st_mode):
         raise BadFile(f"{name}: it is a device or a pipe, which is not replaced")
+    for file, called in {0: "standard input", 1: "standard output", **read}.items():
+        if is_same(file, old):
+            raise BadFile(f"{name}: it is {called} itself")
     if not replace:
         raise BadFile(f"{name}: {EXISTS}")
-    for descriptor, stream in ((0, "input"), (1, "output")):
-        with suppress(OSError):
-            if os.path.samestat(os.fstat(descriptor), old):
-                raise BadFile(f"{name}: it is standard {stream} itself")
     if not os.access(name, os.W_OK):
         raise BadFile(f"{name}: it may not be written, so it is not replaced")
+
+
+def is_same(file, found):
+    """Whether a descriptor, or a name, is of the file that was found; what is closed or missing is not."""
+    with suppress(OSError):
+        return os.path.samestat(os.stat(file), found)
+    return False
 
 
 def write_whole(name, held, replace):

@@ -45,7 +45,7 @@ import os
 import re
 
 from .. import ONLY_FIRST, check_file, compare_files
-from . import WrongUsage, options_of, write_out
+from . import WrongUsage, counted, options_of, write_out
 from .show import file_of, kelvin_at, shown_class
 
 SAME, DIFFERENT = 0, 1  # exit statuses
@@ -110,7 +110,3 @@ def summary(differences, in_both, names):
         line = "no record is in both"
     extra = len(differences) - len(differing)
     return f"{line}; {extra} {only_in(differences[-1].field, names)}" if extra else line
-
-
-def counted(count, noun):
-    return f"{count} {noun}{'' if count == 1 else 's'}"

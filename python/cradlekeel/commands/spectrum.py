@@ -35,13 +35,13 @@ import re
 from decimal import Decimal
 from typing import NamedTuple
 
-from .. import EDGES, STEPS, BadSpectrum, BelowZero, Refusal, read_micro, read_spectrum
+from .. import STEPS, BadSpectrum, BelowZero, Refusal, read_spectrum
 from . import BadFile, WrongUsage, bytes_of, each_file, options_of, say, shown, whole_number, write_out
+from ._edges import edges_of
 
 NUMBER = re.compile(r"[+-]?(?:[0-9]+\.?[0-9]*|\.[0-9]+)(?:[eE][+-]?[0-9]{1,3})?")
 LONGEST_NUMBER = 100  # characters
 LEAST_FIRST, LEAST_LAST, LARGEST_STEP = 400, 700, 20  # in nm: less of the spectrum, or a coarser step, is warned of
-BAD_EDGES = 1  # the number of the refusal that is about the options and not about a file
 
 
 class Row(NamedTuple):
@@ -56,8 +56,7 @@ def run(words):
     if not names:
         raise WrongUsage("no file is named")
     steps = whole_number("--steps", options["--steps"]) if "--steps" in options else STEPS
-    edges = [whole_number("--edges", edge.strip()) for edge in options["--edges"].split(",")] if "--edges" in options else EDGES
-    check_edges(edges)
+    edges = edges_of(options)
     return each_file(names, lambda name: answer_file(name, edges, steps, "--clip" in options))
 
 
@@ -66,15 +65,6 @@ def answer_file(name, edges, steps, clip):
     rows = rows_of(name)
     write_out(f"{name}: {answer(name, rows, edges, steps, clip)}\n")
     warn_of_gaps(name, rows)
-
-
-def check_edges(edges):
-    """Whether the library takes the edges, asked with a reading that it would refuse for another reason."""
-    try:
-        read_micro(0, 0, edges)
-    except Refusal as refusal:
-        if refusal.number == BAD_EDGES:
-            raise WrongUsage(f"--edges: {refusal.reason}") from None
 
 
 def answer(name, rows, edges, steps, clip):
