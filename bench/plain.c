@@ -115,7 +115,7 @@ static uint8_t refusal_of(point reading, nearest found) {
     return CK_ACCEPTED;
 }
 
-static int edges_valid(const uint32_t *edges, size_t count) {
+int plain_edges_valid(const uint32_t *edges, size_t count) {
     if (count < 2 || count > 32 || edges[0] < 1600 || edges[count - 1] > 20001) return 0;
     for (size_t i = 1; i < count; i++)
         if (edges[i - 1] >= edges[i]) return 0;
@@ -186,10 +186,14 @@ static ck_answer with_floats(ck_whole whole) {
     return (ck_answer){(double)KELVIN_PLACES / whole.place, whole.duv / 1e6, whole};
 }
 
-ck_whole plain_whole(uint32_t u, uint32_t v, const uint32_t *edges, size_t edge_count, uint32_t max_steps) {
-    if (!edges_valid(edges, edge_count)) return refused(CK_BAD_EDGES);
+ck_whole plain_answer(uint32_t u, uint32_t v, const uint32_t *edges, size_t edge_count, uint32_t max_steps) {
     if (u > WHOLE_LIMIT || v > WHOLE_LIMIT) return refused(CK_OUT_OF_RANGE);
     return answer((point){u, v}, edges, edge_count, max_steps);
+}
+
+ck_whole plain_whole(uint32_t u, uint32_t v, const uint32_t *edges, size_t edge_count, uint32_t max_steps) {
+    if (!plain_edges_valid(edges, edge_count)) return refused(CK_BAD_EDGES);
+    return plain_answer(u, v, edges, edge_count, max_steps);
 }
 
 ck_answer plain_read_micro(uint32_t u, uint32_t v, const uint32_t *edges, size_t edge_count, uint32_t max_steps) {
@@ -210,7 +214,7 @@ static point point_over(uint64_t x, uint64_t y, uint64_t n) {
 }
 
 ck_answer plain_read_xy(float x, float y, const uint32_t *edges, size_t edge_count, uint32_t max_steps) {
-    if (!edges_valid(edges, edge_count)) return with_floats(refused(CK_BAD_EDGES));
+    if (!plain_edges_valid(edges, edge_count)) return with_floats(refused(CK_BAD_EDGES));
     if (!isfinite(x) || !isfinite(y)) return with_floats(refused(CK_NOT_FINITE));
     if (!in_range(x) || !in_range(y)) return with_floats(refused(CK_OUT_OF_RANGE));
     uint64_t mx = to_micro(x), my = to_micro(y);
@@ -249,7 +253,7 @@ static ck_whole answer_sums(sums s, const uint32_t *edges, size_t edge_count, ui
 ck_answer plain_read_samples(const uint32_t *samples, size_t sample_count, const uint32_t *x_bar, size_t x_count,
                              const uint32_t *y_bar, size_t y_count, const uint32_t *z_bar, size_t z_count,
                              const uint32_t *edges, size_t edge_count, uint32_t max_steps) {
-    if (!edges_valid(edges, edge_count)) return with_floats(refused(CK_BAD_EDGES));
+    if (!plain_edges_valid(edges, edge_count)) return with_floats(refused(CK_BAD_EDGES));
     if (sample_count == 0 || sample_count > MOST_SAMPLES || x_count != sample_count || y_count != sample_count || z_count != sample_count)
         return with_floats(refused(CK_BAD_LENGTHS));
     sums s = sum_products(samples, x_bar, y_bar, z_bar, sample_count);

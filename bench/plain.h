@@ -16,4 +16,8 @@ read_samples plain_read_samples;
 /* The whole-number answer alone, as the text filter needs it. */
 ck_whole plain_whole(uint32_t u, uint32_t v, const uint32_t *edges, size_t edge_count, uint32_t max_steps);
 
+/* The same in two parts, for many readings with the same edges: whether these are good, and the answer where they are. */
+int plain_edges_valid(const uint32_t *edges, size_t count);
+ck_whole plain_answer(uint32_t u, uint32_t v, const uint32_t *edges, size_t edge_count, uint32_t max_steps);
+
 #endif

@@ -10,20 +10,9 @@ enum { FIELDS = 8, BEFORE_DUV = 14, AFTER_DUV = 2 }; /* the last two in bytes of
 
 static ck_compared refused(uint8_t refusal, uint8_t file) { return (ck_compared){.count = 0, .refusal = refusal, .file = file}; }
 
-/* Record lengths are constants wherever a function that is inlined gets them, so that the compiler has a loop for each pair of them, and no
- * record goes through memory. */
-#define INLINED static inline __attribute__((always_inline))
-
-INLINED ck_record record(const uint8_t *from, size_t record_bytes) {
-    const packed_record *r = (const packed_record *)from;
-    const earlier_record *e = (const earlier_record *)from;
-    if (record_bytes == CK_RECORD_BYTES) return (ck_record){r->u, r->v, r->place, r->low, r->high, r->duv, r->steps, r->class_index};
-    return (ck_record){e->u, e->v, e->place, e->low, e->high, e->duv, e->steps, e->class_index};
-}
-
 INLINED int same_record(const uint8_t *a, size_t a_bytes, const uint8_t *b, size_t b_bytes) {
     if (a_bytes == b_bytes) return memcmp(a, b, a_bytes) == 0;
-    return memcmp(a, b, BEFORE_DUV) == 0 && record(a, a_bytes).duv == record(b, b_bytes).duv &&
+    return memcmp(a, b, BEFORE_DUV) == 0 && plain_record(a, a_bytes).duv == plain_record(b, b_bytes).duv &&
            memcmp(a + a_bytes - AFTER_DUV, b + b_bytes - AFTER_DUV, AFTER_DUV) == 0;
 }
 
@@ -36,7 +25,7 @@ INLINED size_t count_rows(const uint8_t *first, size_t first_bytes, const uint8_
     size_t count = 0;
     for (size_t i = 0; i < both; i++, first += first_bytes, second += second_bytes)
         if (!same_record(first, first_bytes, second, second_bytes))
-            count += count_fields(record(first, first_bytes), record(second, second_bytes));
+            count += count_fields(plain_record(first, first_bytes), plain_record(second, second_bytes));
     return count;
 }
 
@@ -63,7 +52,7 @@ INLINED int64_t *put_fields(int64_t *to, size_t i, ck_record a, ck_record b) {
 INLINED int64_t *put_rows(int64_t *to, const uint8_t *first, size_t first_bytes, const uint8_t *second, size_t second_bytes, size_t both) {
     for (size_t i = 0; i < both; i++, first += first_bytes, second += second_bytes)
         if (!same_record(first, first_bytes, second, second_bytes))
-            to = put_fields(to, i, record(first, first_bytes), record(second, second_bytes));
+            to = put_fields(to, i, plain_record(first, first_bytes), plain_record(second, second_bytes));
     return to;
 }
 

@@ -48,7 +48,7 @@ static uint8_t writing_refusal(size_t count, size_t room) {
     return room < file_bytes(CK_RECORD_BYTES, count) ? CK_NO_ROOM : CK_ACCEPTED;
 }
 
-static void put_trailer(uint8_t *to, size_t record_bytes, size_t count) {
+void plain_put_trailer(uint8_t *to, size_t record_bytes, size_t count) {
     to = put_2(to, (uint16_t)record_bytes);
     to = put_2(to, (uint16_t)count);
     put_4(to, (uint32_t)(record_bytes * count));
@@ -87,7 +87,7 @@ ck_done plain_write_records(const uint32_t *u, size_t u_count, const uint32_t *v
         *to++ = steps[i];
         *to++ = class_index[i];
     }
-    put_trailer(to, CK_RECORD_BYTES, count);
+    plain_put_trailer(to, CK_RECORD_BYTES, count);
     return done(file_bytes(CK_RECORD_BYTES, count));
 }
 
@@ -129,7 +129,7 @@ ck_done packed_write_records(const packed_record *records, size_t count, uint8_t
     uint8_t refusal = writing_refusal(count, room);
     if (refusal != CK_ACCEPTED) return refused(refusal);
     memcpy(file, records, CK_RECORD_BYTES * count);
-    put_trailer(file + CK_RECORD_BYTES * count, CK_RECORD_BYTES, count);
+    plain_put_trailer(file + CK_RECORD_BYTES * count, CK_RECORD_BYTES, count);
     return done(file_bytes(CK_RECORD_BYTES, count));
 }
 
@@ -147,6 +147,6 @@ size_t earlier_write_records(const packed_record *records, size_t count, uint8_t
         earlier_record earlier = {r.u, r.v, r.place, r.low, r.high, (int16_t)r.duv, r.steps, r.class_index};
         memcpy(to, &earlier, sizeof earlier);
     }
-    put_trailer(to, CK_EARLIER_RECORD_BYTES, count);
+    plain_put_trailer(to, CK_EARLIER_RECORD_BYTES, count);
     return file_bytes(CK_EARLIER_RECORD_BYTES, count);
 }

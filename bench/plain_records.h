@@ -38,6 +38,21 @@ typedef struct __attribute__((packed, may_alias)) earlier_record {
     uint8_t steps, class_index;
 } earlier_record;
 
+/* Record lengths are constants wherever a function that is inlined gets them, so that the compiler has a loop for each of them, and no
+ * record goes through memory. */
+#define INLINED static inline __attribute__((always_inline))
+
+/* A record of a length, where it stands in a file. */
+INLINED ck_record plain_record(const uint8_t *from, size_t record_bytes) {
+    const packed_record *r = (const packed_record *)from;
+    const earlier_record *e = (const earlier_record *)from;
+    if (record_bytes == CK_RECORD_BYTES) return (ck_record){r->u, r->v, r->place, r->low, r->high, r->duv, r->steps, r->class_index};
+    return (ck_record){e->u, e->v, e->place, e->low, e->high, e->duv, e->steps, e->class_index};
+}
+
+/* The trailer of a file of so many records. */
+void plain_put_trailer(uint8_t *to, size_t record_bytes, size_t count);
+
 /* The limit: records of 20 bytes that are in the file's own form already, and are copied whole. */
 ck_done packed_write_records(const packed_record *records, size_t count, uint8_t *file, size_t room);
 ck_done packed_read_records(const uint8_t *file, size_t length, packed_record *records, size_t count);
