@@ -8,6 +8,7 @@ use mir.Syntax.{Width}
 use mir.Val.{SFits, toZ, ofZ}
 use Rattle.arith.specs.Same.{same}
 use Rattle.arith.specs.SignedLaws.{back}
+use Rattle.arith.specs.TestLaws.{untrue}
 
 pub same-true : (x y : ℤ) → same x y ≡ true → x ≡ y
 same-true (pos m) (pos n) e = ap pos (eqb-true m n e)
@@ -23,11 +24,7 @@ pub same-false : (x y : ℤ) → same x y ≡ false → x ≡ y → ⊥
 same-false x y e f = true≢false (sym (same-self x) ∙ ap (same x) f ∙ e)
 
 pub false-same : (x y : ℤ) → (x ≡ y → ⊥) → same x y ≡ false
-false-same x y h = go (same x y) refl
-  where
-    go : (b : Bool) → same x y ≡ b → b ≡ false
-    go true e = absurd (h (same-true x y e))
-    go false e = refl
+false-same x y h = untrue (same x y) (λ e. h (same-true x y e))
 
 -- which of the two stands first does not matter
 pub same-either : (x y : ℤ) → same x y ≡ same y x

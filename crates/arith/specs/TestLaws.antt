@@ -1,6 +1,11 @@
--- Laws of `&&` and of `cond` that several crates cite.
+-- Laws of tests, of `&&` and of `cond` that several crates cite.
 use mathlib.Core.Path.{_≡_, refl}
 use mathlib.Core.Bool.{Bool, true, false, _&&_, cond, false≢true}
+
+-- a test that cannot pass fails
+pub untrue : (b : Bool) → (b ≡ true → ⊥) → b ≡ false
+untrue true h = absurd (h refl)
+untrue false h = refl
 
 pub and-both : (a b : Bool) → a && b ≡ true → (a ≡ true) × (b ≡ true)
 and-both true b e = (refl, e)

@@ -7,7 +7,7 @@ use native.Mathlib.Omega.{arith}
 use lib.Dec.{ltb, leb, eqb}
 use lib.ListN.{length}
 use borrow.Author.Tests.{ltb-true, ltb-false, leb-true, leb-false, eqb-true, lt-ltb, le-ltb, le-leb, lt-leb, eq-eqb}
-use Rattle.arith.specs.TestLaws.{and-both, both-and}
+use Rattle.arith.specs.TestLaws.{untrue, and-both, both-and}
 use Rattle.refusal.specs.declared.Refusal.{Refusal}
 use Rattle.refusal.specs.declared.Refusal.the-variants.{TooManyRecords, NoRoom, NoTrailer, BadRecordLength, BadTrailer}
 use Rattle.records.specs.Fields.{duvWidth, earlierDuvWidth, recordLength, duvWidthOf}
@@ -32,11 +32,7 @@ true-known long e = go (eqb long (recordLength earlierDuvWidth)) (eqb long (reco
     go false false x y h = absurd (false≢true h)
 
 pub known-false : (long : ℕ) → (Known long → ⊥) → knownLength long ≡ false
-known-false long h = go (knownLength long) refl
-  where
-    go : (b : Bool) → knownLength long ≡ b → b ≡ false
-    go true e = absurd (h (true-known long e))
-    go false e = refl
+known-false long h = untrue (knownLength long) (λ e. h (true-known long e))
 
 pub false-known : (long : ℕ) → knownLength long ≡ false → Known long → ⊥
 false-known long e k = false≢true (sym e ∙ known-true long k)
@@ -67,11 +63,7 @@ true-agrees l e =
     record { back = eqb-true (backIn l) (recordLengthIn l * countIn l) (k .0); exact = eqb-true (length l) (backIn l + trailerLength) (k .1) }
 
 agrees-false : (l : List ℕ) → (Agrees l → ⊥) → agrees l ≡ false
-agrees-false l h = go (agrees l) refl
-  where
-    go : (b : Bool) → agrees l ≡ b → b ≡ false
-    go true e = absurd (h (true-agrees l e))
-    go false e = refl
+agrees-false l h = untrue (agrees l) (λ e. h (true-agrees l e))
 
 -- under its condition a refusal is given
 pub condition-form : (l : List ℕ) (r : Refusal) → FormCondition l r → formOf l ≡ form.Refused r

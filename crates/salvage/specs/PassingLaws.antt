@@ -94,7 +94,7 @@ module _ {A : Type 0} (f : A → Bool) where
       go false e zero l rest = here i x d xs e
       go false e (suc k) l rest = further i (getD (failing f (suc i) xs) k 0) x d xs (rest k (omega arith))
 
-  -- so is the number of every element that does not pass
+  -- and the number of every such element is listed
   pub fails-listed : (i : ℕ) (xs : List A) (d : A) (n : ℕ) → Fails i xs d n → Listed n (failing f i xs)
   fails-listed i [] d n h = absurd (omega (arith, h .from, h .to))
   fails-listed i (x ∷ xs) d n h = go (f x) refl (eqb n i) refl (fails-listed (suc i) xs d n)

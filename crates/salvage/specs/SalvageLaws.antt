@@ -8,7 +8,7 @@ use native.Mathlib.Nat.{div-add-mod}
 use native.Mathlib.Omega.{arith}
 use lib.ListN.{length, take, getD, length-take}
 use lib.Seq.{getD-take}
-use Rattle.arith.specs.TestLaws.{cond-both}
+use Rattle.arith.specs.TestLaws.{untrue, cond-both}
 use Rattle.records.specs.BytesLaws.{Bytes}
 use Rattle.records.specs.Fields.{duvWidth, recordLength, duvWidthOf}
 use Rattle.records.specs.Files.{mostWritten, trailerLength, fileOf, fileLength, wholeRecords, zeroRecord}
@@ -58,13 +58,6 @@ module _ (es : List ℕ) (long : ℕ) (l : List ℕ) where
   unmatched : (n : ℕ) → matches es (whole n) ≡ false → Match es (whole n) → ⊥
   unmatched n e m = false≢true (sym e ∙ true-match es (whole n) m)
 
-  untrue : (n : ℕ) → (Match es (whole n) → ⊥) → matches es (whole n) ≡ false
-  untrue n h = go (matches es (whole n)) refl
-    where
-      go : (b : Bool) → matches es (whole n) ≡ b → b ≡ false
-      go true e = absurd (h (match-true es (whole n) e))
-      go false e = refl
-
   -- each number listed is that of a whole record that does not match
   pub dropped-fails : (j : ℕ) → j < length (droppedIn es long l) → Unmatched es long l (getD (droppedIn es long l) j 0)
   unfolding droppedOf
@@ -77,7 +70,7 @@ module _ (es : List ℕ) (long : ℕ) (l : List ℕ) where
   pub fails-dropped : (n : ℕ) → Unmatched es long l n → Listed n (droppedIn es long l)
   unfolding droppedOf
   fails-dropped n f =
-      fails-listed (matches es) _ (wholeRecords long l) zeroRecord n (record { from = omega arith; to = omega (arith, f .whole, whole-length); fails = ap (λ (k : ℕ). matches es (whole k)) (from-first n) ∙ untrue n (f .fails) })
+      fails-listed (matches es) _ (wholeRecords long l) zeroRecord n (record { from = omega arith; to = omega (arith, f .whole, whole-length); fails = ap (λ (k : ℕ). matches es (whole k)) (from-first n) ∙ untrue (matches es (whole n)) (λ e. f .fails (match-true es (whole n) e)) })
 
   -- the numbers listed rise
   pub dropped-rise : (j k : ℕ) → j < k → k < length (droppedIn es long l) → getD (droppedIn es long l) j 0 < getD (droppedIn es long l) k 0

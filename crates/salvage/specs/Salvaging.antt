@@ -28,7 +28,7 @@ hasFields r a =
 abbrev pub answerTo : List ℕ → Record → Answer
 answerTo es r = answer es (convertMicro (r .u) (r .v)) (r .steps)
 
--- the record matches: it has the fields of that answer
+-- the record matches: that answer is accepted, and the record has its fields
 unfoldable pub matches : List ℕ → Record → Bool
 matches es r = hasFields r (answerTo es r)
 
