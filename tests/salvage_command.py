@@ -334,6 +334,15 @@ def check_long(folder):
     check("nothing is made of it", sorted(os.listdir(folder)) == ["broken.rec", "huge.rec", "new.rec"], os.listdir(folder))
 
 
+def check_memory(folder):
+    """With little memory the new file is written and told of, or there is none."""
+    name, new = broken_in(folder, body_by(20, [GOOD]) + bytes(20_000_000)), folder / "new.rec"
+    for limit in (110_000, 140_000, 165_000, 400_000):  # KB
+        ran = shell(f'ulimit -v {limit}; rm -f new.rec; "$0" salvage --length 20 {name} new.rec', cwd=folder)
+        is_told = ran.returncode == 0 and b"1 kept, 1000000 dropped" in ran.stdout and holds(new) == file_of([GOOD])
+        check(f"with {limit} KB", is_told or (ran.returncode != 0 and not new.exists()), ran)
+
+
 # --- The new file -----------------------------------------------------------------------------------------------------
 
 
@@ -524,5 +533,5 @@ def check_copy(folder):
 
 
 PARTS = (check_written_out, check_cases, check_end, check_runs, check_lengths, check_most, check_none_kept, check_none_by, check_broken, check_input,
-         check_long, check_same_file, check_existing, check_places, check_full_disk, check_faults, check_stopped, check_output, check_usage, check_missing,
-         check_copy)
+         check_long, check_memory, check_same_file, check_existing, check_places, check_full_disk, check_faults, check_stopped, check_output, check_usage,
+         check_missing, check_copy)
