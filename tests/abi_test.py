@@ -18,6 +18,7 @@ import sys
 import tempfile
 from collections import Counter
 from ctypes import c_float
+from inspect import signature
 from math import expm1
 from pathlib import Path
 
@@ -136,6 +137,14 @@ def check_missing_library():
                 assert (ran.returncode, ran.stdout, ran.stderr.count("\n")) == (2, "", 1) and words in ran.stderr, ran
 
 
+def check_default_steps():
+    """A call that gives no number takes all 14 steps, not the six of a line of two numbers."""
+    for reader in (*(reader for reader, _ in READERS.values()), cradlekeel.read_spectrum):
+        assert signature(reader).parameters["steps"].default == cradlekeel.STEPS == reference.MOST_STEPS, reader
+    given = cradlekeel.read_micro(219300, 327100)
+    assert given.steps == 14 and given == cradlekeel.read_micro(219300, 327100, steps=14), given
+
+
 LAMP_EXAMPLES = ("examples/lamp.c", "examples/lamp.py")
 # x and y of lamps with a class, without one, strongly tinted, and with each refusal that x and y can meet.
 LAMPS = ("0.3127 0.3290", "0.4476 0.4074", "0.3451 0.3515", "0.33 0.42", "nan 0.3", "0.3 1", "0.3 0.45", "0.23 0.23", "0.5065 0.3231",
@@ -148,7 +157,7 @@ NO_BLACKBODIES = ("", "0", "-1", "nan", "inf", "2856K", "2856 6500")
 def lamp_line(lamp):
     """What an example prints by the second program, up to a refusal's words, and its exit status."""
     bits = [struct.unpack("<I", struct.pack("<f", float(number)))[0] for number in lamp.split()]
-    given = reference.answer("xy", bits, cradlekeel.EDGES, cradlekeel.STEPS)
+    given = reference.answer("xy", bits, reference.TEXT_EDGES, reference.MOST_STEPS)
     return (worded(given), 1) if given.refusal else (worded(given) + "\n", 0)
 
 
@@ -259,6 +268,7 @@ def main():
         sys.exit(__doc__)
     count = run_vectors()
     check_whole_numbers()
+    check_default_steps()
     spectra, files, pairs, salvages, boards = (part.run() for part in (spectrum_test, record_test, compare_test, salvage_test, board_test))
     check_lamps()
     check_blackbodies()

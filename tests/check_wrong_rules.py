@@ -44,6 +44,7 @@ from wrong_record_rules import WRONG_RECORD_RULES
 from wrong_root_rules import WRONG_ROOT_RULES, rounded_to_nearest
 from wrong_salvage_rules import WRONG_SALVAGE_RULES
 from wrong_sample_rules import WRONG_SAMPLE_RULES
+from wrong_two_number_rules import WRONG_TWO_NUMBER_RULES
 
 CRATES = Path(__file__).resolve().parent.parent / "crates"
 
@@ -233,7 +234,6 @@ WRONG_TEXT_RULES = (
     ("LINE", number_pattern(b"1,8"), "eight digits read"),
     ("LINE", number_pattern(b"1,6"), "seven digits not read"),
     ("LINE", number_pattern(b"1,7", b" +"), "several spaces between numbers"),
-    ("DEFAULT_STEPS", 13),
     ("TEXT_EDGES", (*ref.TEXT_EDGES[:-1], 20_000)),
 )
 
@@ -356,11 +356,11 @@ def main():
     missed += missed_of(WRONG_BOARD_RULES, lambda: first_caught(of_boards), board_table)
     missed += missed_of(WRONG_COMPARE_RULES + WRONG_FORM_RULES, lambda: first_caught(of_comparisons), file_differences)
     missed += missed_of(WRONG_SALVAGE_RULES, lambda: first_caught(of_salvages), salvages)
-    missed += missed_of(WRONG_TEXT_RULES, lambda: first_caught_text(texts))
+    missed += missed_of(WRONG_TEXT_RULES + WRONG_TWO_NUMBER_RULES, lambda: first_caught_text(texts))
     if missed:
         sys.exit("check_wrong_rules: not caught: " + ", ".join(missed))
     groups = (WRONG_RULES, WRONG_BELOW_ZERO_RULES, WRONG_LOCUS_RULES, WRONG_SAMPLE_RULES, WRONG_RECORD_RULES, WRONG_ROOT_RULES,
-              WRONG_BOARD_RULES, WRONG_COMPARE_RULES, WRONG_FORM_RULES, WRONG_SALVAGE_RULES, WRONG_TEXT_RULES)
+              WRONG_BOARD_RULES, WRONG_COMPARE_RULES, WRONG_FORM_RULES, WRONG_SALVAGE_RULES, WRONG_TEXT_RULES, WRONG_TWO_NUMBER_RULES)
     print("check_wrong_rules: all %d wrong rules are caught" % sum(map(len, groups)))
 
 

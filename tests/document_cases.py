@@ -1,5 +1,5 @@
 """Document 01's own cases, typed in from the document and never from our program's output: the listing, the (P) cases and the
-"Also run" list; and cases of document 02's No. 1 to 4 and 6 to 9, worked out apart from the reference. `check()` holds it to them all."""
+"Also run" list; and cases of document 02's No. 1 to 4 and 6 to 10, worked out apart from the reference. `check()` holds it to them all."""
 
 from fractions import Fraction
 from itertools import product
@@ -27,6 +27,10 @@ LISTING = (
     ("0 0", "5"),
     ("12 x", "8"),
 )
+
+# The line of two numbers that the listing gains by No. 10: six steps about entry 8, by Lagrange's form, to a range of 2·F(12) = 288
+# places, from 4451 to 4507 K.
+TWO_NUMBERS = ("219300 327100", "0 23112 22934 23222 -2331 6 2")
 
 # Decimal coordinates of the document are exact in binary here, so their nearest f32 is the value itself.
 CONVERSIONS = (
@@ -296,7 +300,7 @@ def check_conversions():
 
 
 def check_listing():
-    for line, expected in LISTING:
+    for line, expected in (*LISTING, TWO_NUMBERS):
         found = ref.answer_line(line.encode()).decode()
         assert found == expected, (line, expected, found)
 

@@ -4,7 +4,7 @@ import record_files
 import reference as ref
 
 
-def kept(u, v, steps=ref.DEFAULT_STEPS):
+def kept(u, v, steps):
     """The record of a reading in millionths, in a list; an empty one where the reading is refused."""
     refusal, *numbers = ref.answer("whole", (u, v), ref.TEXT_EDGES, steps)
     return [] if refusal else [(u, v, *numbers)]
@@ -13,7 +13,7 @@ def kept(u, v, steps=ref.DEFAULT_STEPS):
 def kept_of(text):
     """The records of the accepted lines of an input, in their order."""
     matches = (ref.LINE.fullmatch(line) for line in ref.lines_of(text) if len(line) <= ref.LONGEST_LINE)
-    return [record for match in matches if match for record in kept(*(int(number) for number in match.groups() if number))]
+    return [record for match in matches if match for record in kept(*map(int, match.groups(ref.DEFAULT_STEPS)))]
 
 
 def file_of(text):

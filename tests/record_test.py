@@ -337,7 +337,7 @@ LAMPS = ((255910, 349510), (219300, 327100), (183000, 276000))
 
 
 def lamp_records():
-    return [record for lamp in LAMPS for record in kept(*lamp)]
+    return [record for lamp in LAMPS for record in kept(*lamp, ref.MOST_STEPS)]
 
 
 def shown_record(record):

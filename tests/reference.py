@@ -1,4 +1,4 @@
-"""The rules of document 01, and of requests No. 1 to 3, 5 and 8 of document 02, in exact whole numbers and fractions: the
+"""The rules of document 01, and of requests No. 1 to 3, 5, 8 and 10 of document 02, in exact whole numbers and fractions: the
 independent second program.
 
 It follows the documents' own words, letters and sections and shares no code with the crates. Where a rule can be said in
@@ -434,7 +434,7 @@ def float_bits(given):
 # --- The text program -------------------------------------------------------------------------------------------------
 
 TEXT_EDGES = (1600, 2500, 3500, 5000, 20001)
-DEFAULT_STEPS = 14
+DEFAULT_STEPS = 6  # of a line with two numbers (document 02, No. 10)
 LONGEST_LINE = 32
 LINE = re.compile(rb"([0-9]{1,7}) ([0-9]{1,7})(?: ([0-9]{1,7}))?")
 

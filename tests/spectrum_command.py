@@ -19,7 +19,7 @@ EXAMPLE = ROOT / "examples/incandescent.csv"
 ROWS = [tuple(line.split(",")) for line in EXAMPLE.read_text().splitlines()[2:]]
 
 
-def words_of(rows, edges=ref.TEXT_EDGES, steps=ref.DEFAULT_STEPS):
+def words_of(rows, edges=ref.TEXT_EDGES, steps=ref.MOST_STEPS):
     """The answer to rows of wavelength and value, both as text."""
     wavelengths, values = zip(*rows)
     given = spectrum_answer(map(int, wavelengths), map(Decimal, values), edges, steps)

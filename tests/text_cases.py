@@ -1,4 +1,5 @@
-"""The text program's input and whole output: document 01's listing first, then lines that a wrong reader gets wrong."""
+"""The text program's input and whole output: document 01's listing and the line that it gains by No. 10, then lines that a wrong
+reader gets wrong."""
 
 from itertools import product
 
@@ -16,7 +17,7 @@ def as_line(*numbers):
 
 
 def listing_lines(dice):
-    return [line.encode() for line, _ in document_cases.LISTING]
+    return [line.encode() for line, _ in (*document_cases.LISTING, document_cases.TWO_NUMBERS)]
 
 
 def digit_counts(dice):
@@ -106,8 +107,39 @@ def plain_readings(dice, count=1200):
         yield as_line(*near_locus(dice, 50_000))
 
 
+def near_an_edge(dice):
+    """A reading beside a point of the locus, at an edge between two classes or within some places of it."""
+    edge, aside = dice.pick(ref.TEXT_EDGES[1:-1]), dice.pick((3, 40, 400))
+    u, v = ref.locus_point(103_360_000 // edge + dice.between(-aside, aside))
+    return u + dice.between(-9, 9), v + dice.between(-9, 9)
+
+
+def out_of_range(dice):
+    return dice.pick(((4_000_001, 327_100), (219_300, 4_000_001), (9_999_999, 9_999_999)))
+
+
+def outcome(reading, steps):
+    """The refusal and the class at the program's edges."""
+    given = ref.answer("whole", reading, ref.TEXT_EDGES, steps)
+    return given.refusal, given.cls
+
+
+def two_numbers(dice, count=12):
+    """Readings as two numbers, beside the same with 5, 6, 7 and 14 steps (document 02, No. 10): each refusal, each class that is named at 6
+    steps, each that is named at 14 steps and not at 6, and none at either."""
+    refused = [((number, 0), (number, 0)) for number in (3, 5, 6, 7)]
+    accepted = [((0, first), (0, last)) for last in (0, 1, 2, 3, ref.NO_CLASS) for first in sorted({last, ref.NO_CLASS})]
+    wanted = dict.fromkeys(refused + accepted, count)
+    while any(wanted.values()):
+        reading = dice.pick((near_an_edge, admitted, lambda dice: near_locus(dice, 60_000), out_of_range))(dice)
+        found = outcome(reading, 6), outcome(reading, 14)
+        if wanted[found]:
+            wanted[found] -= 1
+            yield from (as_line(*reading, *steps) for steps in ((), (5,), (6,), (7,), (14,)))
+
+
 SECTIONS = (listing_lines, digit_counts, leading_zeros, range_ends, spacing, other_bytes, lengths, duv_values,
-            hard_readings, plain_readings)
+            hard_readings, two_numbers, plain_readings)
 
 
 def text_input():

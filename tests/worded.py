@@ -31,5 +31,5 @@ def lists_of(wavelengths, values):
     return Lists(spectra.scaled(light, reference.SAMPLE_LIMIT) if any(light) else light, *zip(*map(table().get, inside)))
 
 
-def spectrum_answer(wavelengths, values, edges=reference.TEXT_EDGES, steps=reference.DEFAULT_STEPS):
+def spectrum_answer(wavelengths, values, edges=reference.TEXT_EDGES, steps=reference.MOST_STEPS):
     return reference.answer("samples", lists_of(wavelengths, values), edges, steps)

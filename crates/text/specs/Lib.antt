@@ -12,4 +12,5 @@ pub mod Stream
 pub mod Block
 pub mod BlockLaws
 pub mod StreamLaws
+pub mod DefaultLaws
 pub mod Code

@@ -56,9 +56,9 @@ valueFrom n (x ∷ w) = valueFrom (10 * n + (x - digitZero)) w
 abbrev pub value : List ℕ → ℕ
 value w = valueFrom 0 w
 
--- document 01's allowance for a line of two numbers
+-- document 02, No. 10: the allowance for a line of two numbers
 abbrev pub defaultSteps : ℕ
-defaultSteps = 14
+defaultSteps = 6
 
 -- two numbers, u and v, or three, with the steps allowed
 abbrev pub numbersOf : List ℕ → Line

@@ -1,6 +1,6 @@
 -- Laws of the line grammar: the longest line that can be read has 23 bytes, so that the rule of 32 bytes needs no test.
 use Prim.Native.Nat.{ℕ, suc, _+_, _*_, _≤_, _<_}
-use mathlib.Core.Path.{_≡_, refl, ap, sym}
+use mathlib.Core.Path.{_≡_, refl, ap, sym, _∙_}
 use mathlib.Core.List.{List, [], _∷_, _++_, map}
 use mathlib.Core.Bool.{Bool, true, false, cond, _&&_}
 use native.Mathlib.Omega.{arith}
@@ -10,11 +10,7 @@ use borrow.Author.Tests.{le-leb, leb-true, leb-false}
 use Rattle.arith.specs.Every.{every}
 use Rattle.arith.specs.TestLaws.{and-both}
 use Rattle.text.specs.declared.grammar.Line.the-variants.{Unreadable}
-use Rattle.text.specs.Line.{space, front, words, isDigit, isNumber, value, defaultSteps, numbersOf, wordsLine, lineOf}
-
--- two numbers say what they say with the default as a third
-pub two-numbers : (u v : ℕ) → numbersOf (u ∷ v ∷ []) ≡ numbersOf (u ∷ v ∷ defaultSteps ∷ [])
-two-numbers u v = refl
+use Rattle.text.specs.Line.{space, front, words, isDigit, isNumber, value, numbersOf, wordsLine, lineOf}
 
 -- bytes put in front of the first piece
 abbrev pub glue : List ℕ → List (List ℕ) → List (List ℕ)
@@ -45,6 +41,20 @@ some-words (x ∷ l) = by-byte (eqb x space)
     by-byte : (t : Bool) → 0 < length (cond t ([] ∷ words l) (front x (words l)))
     by-byte true = omega arith
     by-byte false = some-front x (words l)
+
+-- a space ends a word
+pub words-append : (l r : List ℕ) → words (l ++ (space ∷ r)) ≡ words l ++ words r
+words-append [] r = refl
+words-append (x ∷ l) r = by-byte (eqb x space) (words-append l r)
+  where
+    in-front : (ps : List (List ℕ)) → 0 < length ps → front x (ps ++ words r) ≡ front x ps ++ words r
+    in-front [] h = absurd (omega arith)
+    in-front (p ∷ ps) h = refl
+
+    by-byte : (t : Bool) → words (l ++ (space ∷ r)) ≡ words l ++ words r
+        → cond t ([] ∷ words (l ++ (space ∷ r))) (front x (words (l ++ (space ∷ r)))) ≡ cond t ([] ∷ words l) (front x (words l)) ++ words r
+    by-byte true e = ap (λ (ws : List (List ℕ)). [] ∷ ws) e
+    by-byte false e = ap (front x) e ∙ in-front (words l) (some-words l)
 
 total-front : (x : ℕ) (ps : List (List ℕ)) → 0 < length ps → total (front x ps) ≡ suc (total ps)
 total-front x [] h = absurd (omega arith)

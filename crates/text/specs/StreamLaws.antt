@@ -116,3 +116,27 @@ line-ended w rest h = lines-glue w (newline ∷ rest) h ∙ glue-piece w (lines 
 -- a last line without its newline counts, unless it is empty
 pub line-last : (x : ℕ) (w : List ℕ) → oneLine (x ∷ w) ≡ true → lines (x ∷ w) ≡ (x ∷ w) ∷ []
 line-last x w h = ap lines (sym (append-nil (x ∷ w))) ∙ lines-glue (x ∷ w) [] h ∙ glue-last x w
+
+-- no line of an input has a newline in it
+front-one : (x : ℕ) (ps : List (List ℕ)) → eqb x newline ≡ false → every oneLine ps ≡ true → every oneLine (front x ps) ≡ true
+front-one x [] e h = simp e
+front-one x (p ∷ ps) e h = simp e h
+
+pub lines-one : (input : List ℕ) → every oneLine (lines input) ≡ true
+lines-one [] = refl
+lines-one (x ∷ l) = by-byte (eqb x newline) refl (lines-one l)
+  where
+    by-byte : (t : Bool) → eqb x newline ≡ t → every oneLine (lines l) ≡ true → every oneLine (cond t ([] ∷ lines l) (front x (lines l))) ≡ true
+    by-byte true e h = h
+    by-byte false e h = front-one x (lines l) e h
+
+-- lines as an input, each with its newline
+abbrev pub joined : List (List ℕ) → List ℕ
+joined [] = []
+joined (l ∷ ls) = l ++ (newline ∷ joined ls)
+
+pub lines-joined : (ls : List (List ℕ)) → every oneLine ls ≡ true → lines (joined ls) ≡ ls
+lines-joined [] h = refl
+lines-joined (l ∷ ls) h =
+    let k = and-both (oneLine l) (every oneLine ls) h in
+    line-ended l (joined ls) (k .0) ∙ ap (λ (ps : List (List ℕ)). l ∷ ps) (lines-joined ls (k .1))

@@ -1,6 +1,7 @@
 -- The cases of document 01 that are marked (P), in one table: its four conversions, and the first eight lines of its listing as bytes
 -- in and bytes out. Its third and fourth line look between entries, so their Duv are those of document 02, No. 3; its sixth is accepted since
--- No. 8, to which the two lines after it belong. One theorem says that the definitions give what is expected, by computation.
+-- No. 8, to which the two lines after it belong; the last is that of No. 10. One theorem says that the definitions give what is expected, by
+-- computation.
 use mathlib.Core.Path.{_≡_, refl}
 use mathlib.Core.Bool.{false}
 use mathlib.Core.List.{List, [], _∷_, _++_, map}
@@ -77,6 +78,7 @@ cases =
     ∷ (line "345070 310529 0" gives prints "5")
     ∷ (line "183000 276000" gives prints "6")
     ∷ (line "346000 360540" gives prints "7")
+    ∷ (line "219300 327100" gives prints "0 23112 22934 23222 -2331 6 2")
     ∷ []
 
 pub worked-cases : map (λ (c : Case). c .given) cases ≡ map (λ (c : Case). c .expected) cases

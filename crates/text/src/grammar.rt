@@ -12,7 +12,7 @@ pub(crate) enum Line {
 }
 
 // The most steps to take where a line has two numbers.
-const DEFAULT_STEPS: u32 = 14;
+const DEFAULT_STEPS: u32 = 6;
 
 // Bytes of ASCII.
 pub(crate) const NEWLINE: u8 = b'\n';
