@@ -1,6 +1,6 @@
 /* Prints where two record files differ. In the repository's root, once `make lib` has built the library:
- *     printf '219300 327100\n255910 349510\n' | bin/cradlekeel save --replace target/one.rec
- *     printf '219300 327100\n255910 349510 6\n240000 335000\n' | bin/cradlekeel save --replace target/other.rec
+ *     printf '219300 327100\n255910 349510 14\n' | bin/cradlekeel save --replace target/one.rec
+ *     printf '219300 327100\n255910 349510\n240000 335000\n' | bin/cradlekeel save --replace target/other.rec
  *     gcc -Iinclude examples/compare.c target/lib/libcradlekeel.a -o target/compare && target/compare target/one.rec target/other.rec
  * The exit status is that of cmp: 0 where nothing differs, 1 where something does, 2 where the files could not be compared. */
 #include <inttypes.h>

@@ -1,5 +1,5 @@
 /* Salvages a record file that was left without its end, as by a full disk. In the repository's root, once `make lib` has built the library:
- *     printf '219300 327100\n255910 349510 6\n240000 335000\n' | bin/cradlekeel save --replace target/full.rec
+ *     printf '219300 327100\n255910 349510 14\n240000 335000\n' | bin/cradlekeel save --replace target/full.rec
  *     head -c 50 target/full.rec > target/cut_short.rec
  *     gcc -Iinclude examples/salvage.c target/lib/libcradlekeel.a -o target/salvage
  *     rm -f target/salvaged.rec && target/salvage 20 target/cut_short.rec target/salvaged.rec

@@ -8,7 +8,7 @@ EDGES = (1600, 2500, 3500, 5000, 20001)
 """The class edges in kelvin of a call that gives none."""
 
 STEPS = 14
-"""The golden-section steps of a call that gives no number; more than 14 are never taken."""
+"""The golden-section steps of a call that gives no number: all that there are. The text program gives a line of two numbers 6."""
 
 REASONS = {
     1: "the class edges must be 2 to 32 whole kelvins from 1600 to 20001, strictly rising",

@@ -14,7 +14,7 @@ Files from before, with records of 18 bytes instead of 20, are shown too.
 Examples:
   cradlekeel show --kelvin monday.rec
   cradlekeel show *.rec | wc -l                  (how many records)
-  cradlekeel show monday.rec | cut -d' ' -f1-2 | cradlekeel      (the readings, answered again at 14 steps)
+  cradlekeel show monday.rec | awk '{ print $1, $2, 14 }' | cradlekeel      (the readings, answered again at 14 steps)
 
 The class edges are not in the file: those of cradlekeel save are 1600, 2500, 3500, 5000 and 20001 K, and a file of another
 program may have been made with others. Only the form of a file is checked: what its records say is printed as it is, and
