@@ -1,12 +1,12 @@
-/* The text program of document 01 in plain C: standard input to standard output through two buffers of 64 KiB. Written for
- * the benchmark as a C programmer would write it for speed: no stdio, digits read and written by hand. */
+/* The text program of document 01, with No. 10 of document 02, in plain C: standard input to standard output through two buffers
+ * of 64 KiB. Written for the benchmark as a C programmer would write it for speed: no stdio, digits read and written by hand. */
 #include "plain.h"
 
 #include <stdlib.h>
 #include <string.h>
 #include <unistd.h>
 
-enum { BLOCK = 65536, LONGEST_LINE = 32, LONGEST_REPLY = 64, UNREADABLE = 8 };
+enum { BLOCK = 65536, LONGEST_LINE = 32, LONGEST_REPLY = 64, UNREADABLE = 8, TWO_NUMBERS_STEPS = 6 };
 
 static const uint32_t EDGES[] = {1600, 2500, 3500, 5000, 20001};
 
@@ -64,7 +64,7 @@ static const char *read_number(const char *from, const char *end, uint32_t *numb
 
 static ck_whole answer_line(const char *line, const char *end) {
     const ck_whole unreadable = {.refusal = UNREADABLE};
-    uint32_t u, v, max_steps = 14;
+    uint32_t u, v, max_steps = TWO_NUMBERS_STEPS;
     if (end - line > LONGEST_LINE) return unreadable;
     const char *at = read_number(line, end, &u);
     if (!at || at == end || *at != ' ') return unreadable;
