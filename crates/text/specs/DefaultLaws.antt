@@ -9,7 +9,7 @@ use lib.Dec.{eqb}
 use borrow.Author.Tests.{eqb-true}
 use Rattle.arith.specs.Every.{every}
 use Rattle.arith.specs.TestLaws.{and-both, both-and, cond-both}
-use Rattle.text.specs.Line.{space, newline, words, wordsLine, lineOf}
+use Rattle.text.specs.Line.{space, newline, words, wordsLine}
 use Rattle.text.specs.LineLaws.{words-append, length-implied}
 use Rattle.text.specs.Decimal.{decimal}
 use Rattle.text.specs.Print.{replyLine, answerLine}
@@ -20,6 +20,7 @@ use Rattle.text.specs.StreamLaws.{oneLine, lines-one, joined, lines-join
 abbrev pub withSix : List ℕ → List ℕ
 withSix l = l ++ (space ∷ decimal 6)
 
+-- two words say what they say with a 6 behind them
 six-third : (ws : List (List ℕ)) → length ws ≡ 2 → wordsLine (ws ++ words (decimal 6)) ≡ wordsLine ws
 six-third [] h = absurd (omega arith)
 six-third (u ∷ []) h = absurd (omega arith)
