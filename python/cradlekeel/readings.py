@@ -140,8 +140,8 @@ def read_xyz(x, y, z, edges=EDGES, steps=STEPS):
 
 
 def read_micro(u, v, edges=EDGES, steps=STEPS):
-    """The answer to CIE 1960 u and v as whole numbers of millionths, each 0 to 4,000,000. With `steps=6` it is what the text program
-    answers to a line of two numbers.
+    """The answer to CIE 1960 u and v as whole numbers of millionths, each 0 to 4,000,000. With `steps=6`, and no edges given, it
+    is what the text program answers to a line of two numbers.
 
     >>> answer = read_micro(219300, 327100, steps=0)
     >>> answer.kelvin_range, answer.class_index
