@@ -51,7 +51,7 @@ same-replies : (ls : List (List ℕ)) → replies (map sixBehindTwo ls) ≡ repl
 same-replies [] = refl
 same-replies (l ∷ ls) = cc (same-line l, same-replies ls)
 
--- still lines of their own
+-- a line with a 6 behind it is still one line
 six-one : (l : List ℕ) → oneLine l ≡ true → oneLine (withSix l) ≡ true
 six-one [] h = refl
 six-one (x ∷ l) h =
@@ -64,7 +64,7 @@ all-one (l ∷ ls) h =
     let k = and-both (oneLine l) (every oneLine ls) h in
     both-and (cond-both (λ (w : List ℕ). oneLine w ≡ true) (eqb (length (words l)) 2) (six-one l (k .0)) (k .0)) (all-one ls (k .1))
 
--- and the whole output is the same
+-- a whole input prints what it prints with a 6 typed behind each line of two words
 pub sixes-typed : (input : List ℕ) → outputOf (sixesTyped input) ≡ outputOf input
 unfolding outputOf
 sixes-typed input =
