@@ -74,7 +74,7 @@ pub list-beyond : (c : Columns) (i : ℕ) → sizeOf c ≤ i → getD (listOf c)
 list-beyond c i h = List·getD-eq-default (listOf c) zeroRecord (omega (arith, length-list c))
 
 -- one element more at the front of a column
-over-append : {A : Type 0} (xs : List A) (y : A) (old : List A) → length xs < length old → set (over xs old) (length xs) y ≡ over (xs ++ (y ∷ [])) old
+pub over-append : {A : Type 0} (xs : List A) (y : A) (old : List A) → length xs < length old → set (over xs old) (length xs) y ≡ over (xs ++ (y ∷ [])) old
 over-append [] y [] h = absurd (omega arith)
 over-append [] y (o ∷ old) h = refl
 over-append (x ∷ xs) y [] h = absurd (omega arith)
