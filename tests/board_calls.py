@@ -1,5 +1,5 @@
-"""The C library's functions on boards, asked in the second program's terms: a board is its count and its 64 slots, and a slot the
-ten numbers of its lot. The structures are written from include/cradlekeel.h apart from those of the package."""
+"""The C library's functions on boards, asked in the second program's terms: a board is how many places are ours, its count and its 64
+slots, and a slot the ten numbers of its lot. The structures are written from include/cradlekeel.h apart from those of the package."""
 
 import ctypes
 import struct
@@ -32,7 +32,7 @@ class CLot(ctypes.Structure):
 class CBoard(ctypes.Structure):
     """ck_board"""
 
-    _fields_ = [("count", SIZE), ("lots", CLot * SLOTS)]
+    _fields_ = [("ours", SIZE), ("count", SIZE), ("lots", CLot * SLOTS)]
 
 
 class CTold(ctypes.Structure):
@@ -47,15 +47,15 @@ class CAnswer(ctypes.Structure):
     _fields_ = [("board", CBoard), ("told", CTold)]
 
 
-assert list(map(ctypes.sizeof, (CRecord, CLot, CBoard, CTold, CAnswer))) == [24, 32, 2056, 36, 2096]
+assert list(map(ctypes.sizeof, (CRecord, CLot, CBoard, CTold, CAnswer))) == [24, 32, 2064, 36, 2104]
 assert NUMBERS.size == WITH_GAPS.size == ctypes.sizeof(CLot)
 
 TAKEN = {
-    "ck_board_load": tuple(part for kind in COLUMNS for part in (ctypes.POINTER(kind), SIZE)),
-    "ck_board_read": (CBoard, SIZE),
-    "ck_board_assign": (CBoard, SIZE, U16, U32),
+    "ck_board_load": 2 * tuple(part for kind in COLUMNS for part in (ctypes.POINTER(kind), SIZE)),  # our columns, then the partner's
+    "ck_board_read": (CBoard, U8, SIZE),
+    "ck_board_assign": (CBoard, U8, SIZE, U16, U32),
 }
-NAMES = {"r": "ck_board_read", "a": "ck_board_assign"}  # by the letters of the lines `board`
+NAMES = {"r": "ck_board_read", "a": "ck_board_assign"}  # by the small letters of the lines `board`
 
 
 def function(name):
@@ -68,6 +68,7 @@ def function(name):
 class Shown(NamedTuple):
     """Every number of what a call gives back."""
 
+    ours: int
     count: int
     slots: list
     refusal: int
@@ -77,19 +78,20 @@ class Shown(NamedTuple):
 
 def shown(answer):
     board, told = answer.board, answer.told
-    return Shown(board.count, list(NUMBERS.iter_unpack(bytes(board.lots))), told.refusal, told.stamp, NUMBERS.unpack(bytes(told.lot)))
+    slots, lot = list(NUMBERS.iter_unpack(bytes(board.lots))), NUMBERS.unpack(bytes(told.lot))
+    return Shown(board.ours, board.count, slots, told.refusal, told.stamp, lot)
 
 
-def board_of(count, slots, gaps):
-    """A board with any count and slots, and with any numbers in the bytes between its fields."""
+def board_of(ours, count, slots, gaps):
+    """A board with any counts and slots, and with any numbers in the bytes between its fields."""
     parts = ((*slot[:5], first, *slot[5:8], second, *slot[8:], third) for slot, (first, second, third) in zip(slots, gaps))
     lots = b"".join(WITH_GAPS.pack(*numbers) for numbers in parts)
-    return CBoard.from_buffer_copy(count.to_bytes(8, "little") + lots)
+    return CBoard.from_buffer_copy(ours.to_bytes(8, "little") + count.to_bytes(8, "little") + lots)
 
 
 def numbered(what):
     """What a call gives back, each number with its name."""
-    yield from (("the refusal", what.refusal), ("the stamp", what.stamp), ("the count", what.count))
+    yield from (("the refusal", what.refusal), ("the stamp", what.stamp), ("our count", what.ours), ("the count", what.count))
     for where, lot in (("the lot told", what.lot), *(("slot %d" % place, slot) for place, slot in enumerate(what.slots))):
         yield from (("%s of %s" % (name, where), number) for name, number in zip(FIELDS, lot))
 
@@ -104,15 +106,16 @@ def expect_shown(call, found, expected):
 # --- Calls ------------------------------------------------------------------------------------------------------------
 
 
-def c_load(columns):
+def c_load(ours, theirs):
     """What `ck_board_load` gives back; the columns must stay as they are."""
-    given = [(kind * len(numbers))(*numbers) for kind, numbers in zip(COLUMNS, columns)]
+    columns = [*ours, *theirs]
+    given = [(kind * len(numbers))(*numbers) for kind, numbers in zip(2 * COLUMNS, columns)]
     answer = function("ck_board_load")(*(part for column in given for part in (column, len(column))))
     for column, numbers in zip(given, columns):
         expect("a column after ck_board_load", tuple(column), tuple(numbers))
     return answer
 
 
-def c_call(board, letter, *numbers):
+def c_call(board, kind, party, *numbers):
     """What a read or an assignment gives back."""
-    return function(NAMES[letter])(board, *numbers)
+    return function(NAMES[kind])(board, party, *numbers)

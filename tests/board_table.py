@@ -1,4 +1,4 @@
-"""The shared board, No. 6 of document 02: the second program's part for it, a dictionary from place to lot.
+"""The shared board, No. 6 and 11 of document 02: the second program's part for it, a dictionary from place to owner and lot.
 
 A place is a key of the dictionary exactly where it has a lot. Each call is given a board and hands back (board, told); the
 dictionary that it was given stays as it is. Told are the refusal, 0 for none; a stamp, 0 for none; and a lot, None for none."""
@@ -8,6 +8,7 @@ from typing import NamedTuple
 from record_files import listed
 
 TOO_MANY_LOTS, NO_SUCH_PLACE, STALE_STAMP, LAST_STAMP = range(16, 20)
+OURS, PARTNER = PARTIES = 0, 1
 MOST_LOTS = 64
 NO_JOB = 0
 FIRST_STAMP, LARGEST_STAMP = 0, 65_535
@@ -17,6 +18,13 @@ class Lot(NamedTuple):
     record: tuple  # its eight numbers
     job: int
     stamp: int
+
+
+class Owned(NamedTuple):
+    """What a place has."""
+
+    owner: int
+    lot: Lot
 
 
 class Told(NamedTuple):
@@ -33,35 +41,56 @@ def at_loading(record):
     return Lot(record, NO_JOB, FIRST_STAMP)
 
 
-def placed(records):
-    """The lots in the order of the list, places from 0."""
-    return {place: at_loading(record) for place, record in enumerate(records)}
+def of_house(owner, records):
+    """A house's lots, in the order of its list."""
+    return [Owned(owner, at_loading(record)) for record in records]
 
 
-def refused_load(records):
+def in_a_row(ours, theirs):
+    """The lots of both houses, ours first."""
+    return [*of_house(OURS, ours), *of_house(PARTNER, theirs)]
+
+
+def placed(ours, theirs):
+    """The lots in their row, places from 0."""
+    return dict(enumerate(in_a_row(ours, theirs)))
+
+
+def counted(ours, theirs):
+    """How many lots are counted at loading: those of both lists."""
+    return len(ours) + len(theirs)
+
+
+def refused_load(ours, theirs):
     """A board of no lots."""
     return {}, Told(TOO_MANY_LOTS)
 
 
-def load(records):
-    return refused_load(records) if len(records) > MOST_LOTS else (placed(records), Told())
+def load(ours, theirs):
+    return refused_load(ours, theirs) if counted(ours, theirs) > MOST_LOTS else (placed(ours, theirs), Told())
 
 
-def load_columns(columns):
-    """The same from eight columns; the list ends with the shortest of them."""
-    return load(listed(columns))
+def load_columns(ours, theirs):
+    """The same from eight columns of each house; a list ends with the shortest of its columns."""
+    return load(listed(ours), listed(theirs))
 
 
 # --- A read -----------------------------------------------------------------------------------------------------------
 
 
-def lot_at(board, place):
-    """The lot of a place; None where there is no such place."""
-    return board.get(place)
+def may_touch(party, owner):
+    """A party may read and assign its own places only."""
+    return party == owner
+
+
+def lot_at(board, party, place):
+    """The lot of a place that the party may touch; None where there is no such place."""
+    owned = board.get(place)
+    return owned.lot if owned and may_touch(party, owned.owner) else None
 
 
 def told_no_place(place, stamp=0):
-    """What is told for a place that the board has not, to a read and to an assignment with a stamp."""
+    """What is told for a place that the board has not for the party, to a read and to an assignment with a stamp."""
     return Told(NO_SUCH_PLACE)
 
 
@@ -70,8 +99,8 @@ def told_lot(lot):
     return Told(lot=lot)
 
 
-def read(board, place):
-    lot = lot_at(board, place)
+def read(board, party, place):
+    lot = lot_at(board, party, place)
     return board, told_no_place(place) if lot is None else told_lot(lot)
 
 
@@ -117,12 +146,12 @@ def stored(lot, job):
     return Lot(lot.record, job, raised(lot.stamp))
 
 
-def assign(board, place, stamp, job):
-    lot = lot_at(board, place)
+def assign(board, party, place, stamp, job):
+    lot = lot_at(board, party, place)
     if lot is None:
         return board, told_no_place(place, stamp)
     told = refused(lot, stamp, job)
     if told:
         return board, told
     after = stored(lot, job)
-    return {**board, place: after}, told_stored(lot, after)
+    return {**board, place: Owned(party, after)}, told_stored(lot, after)

@@ -264,8 +264,9 @@ UNSALVAGED_FILES = (
     ("", 20, ref.TEXT_EDGES, 7, 0, 12),
 )
 
-# How many records, and the refusal's number, 0 where a board of as many lots is loaded.
-LOADS = ((0, 0), (1, 0), (63, 0), (64, 0), (65, 16), (3600, 16))
+# How many records are ours and how many the partner's, and the refusal's number, 0 where a board of all of them is loaded.
+LOADS = ((0, 0, 0), (1, 0, 0), (63, 0, 0), (64, 0, 0), (65, 0, 16), (3600, 0, 16), (0, 64, 0), (0, 65, 16), (63, 1, 0), (1, 63, 0),
+         (64, 1, 16), (1, 64, 16), (32, 32, 0), (32, 33, 16), (64, 64, 16))
 
 # A morning of two dispatchers on a board of two lots: each call, and what it is told: refusal, stamp, and a lot's job and stamp.
 MORNING = (
@@ -278,6 +279,16 @@ MORNING = (
     (("assign", 2, 0, 4713), (17, 0, None)), (("assign", 2, 9, 4713), (17, 0, None)), (("assign", 2**64 - 1, 0, 4713), (17, 0, None)),
     (("assign", 0, 2, 0), (0, 0, None)), (("read", 0), (0, 0, (0, 3))),  # a job is taken off: the stamp goes up all the same
     (("assign", 0, 2, 4714), (18, 3, None)),
+)
+
+# A morning of both houses, one lot ours and then one the partner's: whose call, the call, and what it is told, as above.
+HOUSES = (
+    (0, ("read", 0), (0, 0, (0, 0))), (0, ("read", 1), (17, 0, None)), (1, ("read", 1), (0, 0, (0, 0))), (1, ("read", 0), (17, 0, None)),
+    (0, ("read", 2), (17, 0, None)), (1, ("read", 2), (17, 0, None)),
+    (0, ("assign", 1, 0, 4711), (17, 0, None)), (0, ("assign", 1, 9, 4711), (17, 0, None)),  # with the current stamp, and with another
+    (1, ("assign", 1, 0, 88), (0, 0, None)), (0, ("assign", 1, 0, 4711), (17, 0, None)), (1, ("read", 1), (0, 0, (88, 1))),
+    (1, ("assign", 0, 0, 88), (17, 0, None)), (1, ("assign", 1, 0, 89), (18, 1, None)), (0, ("assign", 0, 0, 4711), (0, 0, None)),
+    (0, ("read", 0), (0, 0, (4711, 1))), (1, ("read", 0), (17, 0, None)),
 )
 
 # What an assignment with a stamp is told where a lot's stamp is at its end, and the lot's job, 5 before, and stamp afterwards.
@@ -421,20 +432,29 @@ def check_salvages():
 
 
 def check_board():
-    for count, refusal in LOADS:
-        board, told = board_table.load([(1,) * 8] * count)
-        assert told == (refusal, 0, None) and len(board) == (0 if refusal else count), (count, told)
+    for ours, theirs, refusal in LOADS:
+        board, told = board_table.load([(1,) * 8] * ours, [(2,) * 8] * theirs)
+        assert told == (refusal, 0, None) and len(board) == (0 if refusal else ours + theirs), (ours, theirs, told)
     for records in (RECORD_FILES[2][0], RECORD_FILES[4][0]):
-        board, _ = board_table.load(list(records))
-        for (name, *numbers), (refusal, stamp, lot) in MORNING:
-            board, told = getattr(board_table, name)(board, *numbers)
-            assert told == (refusal, stamp, lot and (records[numbers[0]], *lot)), (name, numbers, told)
+        first, second = records
+        check_morning(records, board_table.load([first, second], []), [(board_table.OURS, *case) for case in MORNING])
+        check_morning(records, board_table.load([], [first, second]), [(board_table.PARTNER, *case) for case in MORNING])
+        check_morning(records, board_table.load([first], [second]), HOUSES)
+
+
+def check_morning(records, loaded, cases):
+    board, _ = loaded
+    for party, (name, *numbers), (refusal, stamp, lot) in cases:
+        board, told = getattr(board_table, name)(board, party, *numbers)
+        assert told == (refusal, stamp, lot and (records[numbers[0]], *lot)), (party, name, numbers, told)
 
 
 def check_last_stamps():
     for current, stamp, (refusal, carried), lot in LAST_STAMPS:
-        board, told = board_table.assign({0: board_table.Lot((1,) * 8, 5, current)}, 0, stamp, 7)
-        assert told == (refusal, carried, None) and board == {0: ((1,) * 8, *lot)}, (current, stamp, told, board)
+        for party in board_table.PARTIES:
+            before = {0: board_table.Owned(party, board_table.Lot((1,) * 8, 5, current))}
+            board, told = board_table.assign(before, party, 0, stamp, 7)
+            assert told == (refusal, carried, None) and board == {0: (party, ((1,) * 8, *lot))}, (current, stamp, told, board)
 
 
 def check():

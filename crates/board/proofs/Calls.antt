@@ -9,12 +9,13 @@ use lib.Seq.{getD-take, set-append-left}
 use Rattle.refusal.specs.declared.Refusal.{Refusal}
 use Rattle.refusal.specs.declared.Refusal.the-variants.{NoSuchPlace, StaleStamp, LastStamp}
 use Rattle.records.specs.Columns.{over}
+use Rattle.board.specs.declared.Party.{Party}
 use Rattle.board.specs.declared.Lot.{Lot}
 use Rattle.board.specs.declared.Board.{Board}
 use Rattle.board.specs.declared.Told.{Told}
 use Rattle.board.specs.declared.Told.the-variants.{Holds, Stored, Refused}
 use Rattle.board.specs.Table.{lastStamp, zeroLot, withJob, lotAt, Call, reads, assigns, isStored, put, next}
-use Rattle.board.specs.Boards.{tableOf, withTable, handed}
+use Rattle.board.specs.Boards.{tableOf, withTable, owns, handed}
 use Rattle.board.specs.Rules.{Reached, Rule, read-no-place, read-lot, assign-no-place, stale, last, stored}
 use Rattle.board.specs.RuleLaws.{rule-told, refused-next}
 use Rattle.board.specs.SharingLaws.{with-own}
@@ -23,22 +24,25 @@ use Rattle.board.specs.SharingLaws.{with-own}
 abbrev pub slotAt : Board → ℕ → Lot
 slotAt b p = getD (b .lots) p zeroLot
 
-module _ {Who : Type 0} (may : Who → ℕ → Bool) (b : Board) where
+module _ (b : Board) where
+  abbrev may : Party → ℕ → Bool
+  may = owns (b .ours)
+
   -- a call that leaves the table hands back the board as it was
-  kept : (c : Call Who) (d : Told) → Rule may (tableOf b) c d → next may (tableOf b) c ≡ tableOf b → record { board = b; told = d } ≡ handed may b c
+  kept : (c : Call Party) (d : Told) → Rule may (tableOf b) c d → next may (tableOf b) c ≡ tableOf b → record { board = b; told = d } ≡ handed b c
   kept c d r n =
       let x = sym (ap (withTable b) n ∙ with-own b) in
       let y = sym (rule-told may (tableOf b) c d r) in
       λ i. record { board = x i; told = y i }
 
-  refused : (c : Call Who) (r : Refusal) (s : ℕ) → Rule may (tableOf b) c (Refused r s) → record { board = b; told = Refused r s } ≡ handed may b c
+  refused : (c : Call Party) (r : Refusal) (s : ℕ) → Rule may (tableOf b) c (Refused r s) → record { board = b; told = Refused r s } ≡ handed b c
   refused c r s e = kept c (Refused r s) e (refused-next may (tableOf b) c r s (rule-told may (tableOf b) c (Refused r s) e))
 
-  module _ (w : Who) (p : ℕ) where
-    pub read-none : (Reached may (tableOf b) w p → ⊥) → record { board = b; told = Refused NoSuchPlace 0 } ≡ handed may b (reads w p)
+  module _ (w : Party) (p : ℕ) where
+    pub read-none : (Reached may (tableOf b) w p → ⊥) → record { board = b; told = Refused NoSuchPlace 0 } ≡ handed b (reads w p)
     read-none f = refused (reads w p) NoSuchPlace 0 (read-no-place w p f)
 
-    pub assign-none : (stamp job : ℕ) → (Reached may (tableOf b) w p → ⊥) → record { board = b; told = Refused NoSuchPlace 0 } ≡ handed may b (assigns w p stamp job)
+    pub assign-none : (stamp job : ℕ) → (Reached may (tableOf b) w p → ⊥) → record { board = b; told = Refused NoSuchPlace 0 } ≡ handed b (assigns w p stamp job)
     assign-none stamp job f = refused (assigns w p stamp job) NoSuchPlace 0 (assign-no-place w p stamp job f)
 
     -- the place has a lot, and the caller may touch it
@@ -49,17 +53,17 @@ module _ {Who : Type 0} (may : Who → ℕ → Bool) (b : Board) where
       stamp-is : lotAt (tableOf b) p .stamp ≡ slotAt b p .stamp
       stamp-is = ap (λ (l : Lot). l .stamp) lot-is
 
-      pub read-held : record { board = b; told = Holds (slotAt b p) } ≡ handed may b (reads w p)
+      pub read-held : record { board = b; told = Holds (slotAt b p) } ≡ handed b (reads w p)
       read-held = ap (λ (l : Lot). record { board = b; told = Holds l }) (sym lot-is) ∙ kept (reads w p) (Holds (lotAt (tableOf b) p)) (read-lot w p h) refl
 
       module _ (stamp job : ℕ) where
-        pub assign-stale : (stamp ≡ slotAt b p .stamp → ⊥) → record { board = b; told = Refused StaleStamp (slotAt b p .stamp) } ≡ handed may b (assigns w p stamp job)
+        pub assign-stale : (stamp ≡ slotAt b p .stamp → ⊥) → record { board = b; told = Refused StaleStamp (slotAt b p .stamp) } ≡ handed b (assigns w p stamp job)
         assign-stale f =
             ap (λ (s : ℕ). record { board = b; told = Refused StaleStamp s }) (sym stamp-is)
             ∙ refused (assigns w p stamp job) StaleStamp (lotAt (tableOf b) p .stamp) (stale w p stamp job h (λ e. f (e ∙ stamp-is)))
 
         module _ (e : stamp ≡ slotAt b p .stamp) where
-          pub assign-last : stamp ≡ lastStamp → record { board = b; told = Refused LastStamp 0 } ≡ handed may b (assigns w p stamp job)
+          pub assign-last : stamp ≡ lastStamp → record { board = b; told = Refused LastStamp 0 } ≡ handed b (assigns w p stamp job)
           assign-last l = refused (assigns w p stamp job) LastStamp 0 (last w p stamp job h (e ∙ sym stamp-is) l)
 
           -- the slots with the job stored are those with the table's lot changed
@@ -74,11 +78,11 @@ module _ {Who : Type 0} (may : Who → ℕ → Bool) (b : Board) where
 
           -- the board with the lot that the code stores
           abbrev storedWith : ℕ → Board
-          storedWith s = record { count = b .count; lots = set (b .lots) p (record { «record» = slotAt b p .«record»; job = job; stamp = s + 1 }) }
+          storedWith s = record { ours = b .ours; count = b .count; lots = set (b .lots) p (record { «record» = slotAt b p .«record»; job = job; stamp = s + 1 }) }
 
-          pub assign-stored : (stamp ≡ lastStamp → ⊥) → record { board = storedWith stamp; told = Stored } ≡ handed may b (assigns w p stamp job)
+          pub assign-stored : (stamp ≡ lastStamp → ⊥) → record { board = storedWith stamp; told = Stored } ≡ handed b (assigns w p stamp job)
           assign-stored l =
               let d = rule-told may (tableOf b) (assigns w p stamp job) Stored (stored w p stamp job h (e ∙ sym stamp-is) l) in
               ap (λ (s : ℕ). record { board = storedWith s; told = Stored }) e
-              ∙ ap (λ (z : List Lot). record { board = record { count = b .count; lots = z }; told = Stored }) slots-stored
+              ∙ ap (λ (z : List Lot). record { board = record { ours = b .ours; count = b .count; lots = z }; told = Stored }) slots-stored
               ∙ ap (λ (x : Told). record { board = withTable b (put (isStored x) (tableOf b) p job); told = x }) (sym d)

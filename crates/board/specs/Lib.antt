@@ -5,4 +5,7 @@ pub mod Rules
 pub mod RuleLaws
 pub mod Sharing
 pub mod SharingLaws
+pub mod AlikeLaws
+pub mod Isolation
+pub mod IsolationLaws
 pub mod Code

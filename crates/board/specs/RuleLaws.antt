@@ -1,25 +1,27 @@
--- A call is told what its rule says, and one rule always applies; what a refusal carries and leaves.
+-- A call is told what its rule says, and one rule always applies; what a refusal carries and leaves; whose places a load gives.
 use mathlib.Core.Path.{_≡_, refl, ap, sym, _∙_}
-use mathlib.Core.Bool.{Bool, true, false, cond, false≢true}
-use mathlib.Core.List.{List, [], map}
+use mathlib.Core.Bool.{Bool, true, false, cond, _&&_, false≢true}
+use mathlib.Core.List.{List, [], _++_, map}
 use mathlib.Core.Logic.{_⊎_, inl, inr}
-use Prim.Native.Nat.{ℕ, _≤_, _<_}
-use lib.Dec.{eqb, ltb}
-use lib.ListN.{length}
+use Prim.Native.Nat.{ℕ, _+_, _≤_, _<_}
+use native.Mathlib.Omega.{arith}
+use lib.Dec.{eqb, ltb, leb}
+use lib.ListN.{length, length-append, length-map}
 use borrow.Author.Tests.{lt-ltb, ltb-true, eq-eqb, ne-eqb, eqb-true, eqb-false, le-leb, lt-leb}
 use Rattle.arith.specs.TestLaws.{and-both, both-and}
 use Rattle.refusal.specs.declared.Refusal.{Refusal}
 use Rattle.refusal.specs.declared.Refusal.the-variants.{TooManyLots, NoSuchPlace, StaleStamp, LastStamp}
 use Rattle.records.specs.declared.fields.Record.{Record}
+use Rattle.board.specs.declared.Party.the-variants.{Ours, Partner}
 use Rattle.board.specs.declared.Lot.{Lot}
 use Rattle.board.specs.declared.Told.{Told}
 use Rattle.board.specs.declared.Told.the-variants.{Loaded, Holds, Stored, Refused}
 use Rattle.board.specs.Table.{mostLots, lastStamp, fresh, lotAt, Call, reads, assigns, put, isStored, reaches, tell, next}
-use Rattle.board.specs.Boards.{boardOf, loaded}
+use Rattle.board.specs.Boards.{boardOf, loaded, owns}
 use Rattle.board.specs.Rules.{Reached, Rule, read-no-place, read-lot, assign-no-place, stale, last, stored}
 
 -- whether a call is refused, its refusal and its stamp; where it is not, any refusal and 0
-abbrev isRefused : Told → Bool
+abbrev pub isRefused : Told → Bool
 isRefused Loaded = false
 isRefused (Holds l) = false
 isRefused Stored = false
@@ -96,9 +98,24 @@ module _ {Who : Type 0} (may : Who → ℕ → Bool) (t : List Lot) where
   refused-next (reads w p) r s e = refl
   refused-next (assigns w p stamp job) r s e = ap (λ (d : Told). put (isStored d) t p job) e
 
--- a load of more than 64 records is refused and hands back the board of no lots; any other is taken
-pub load-over : (rs : List Record) → mostLots < length rs → loaded rs ≡ record { board = boardOf []; told = Refused TooManyLots 0 }
-load-over rs h = rw (lt-leb (length rs) mostLots h) refl
+-- a load of more than 64 records in all is refused and hands back the board of no lots; any other is taken, ours first
+pub load-over : (xs ys : List Record) → mostLots < length (xs ++ ys) → loaded xs ys ≡ record { board = boardOf 0 []; told = Refused TooManyLots 0 }
+load-over xs ys h = rw (lt-leb (length (xs ++ ys)) mostLots h) refl
 
-pub load-taken : (rs : List Record) → length rs ≤ mostLots → loaded rs ≡ record { board = boardOf (map fresh rs); told = Loaded }
-load-taken rs h = rw (le-leb (length rs) mostLots h) refl
+pub load-taken : (xs ys : List Record) → length (xs ++ ys) ≤ mostLots → loaded xs ys ≡ record { board = boardOf (length xs) (map fresh (xs ++ ys)); told = Loaded }
+load-taken xs ys h = rw (le-leb (length (xs ++ ys)) mostLots h) refl
+
+-- a load that is taken gives our house the first places, as many as its list has records, and the partner those behind them
+module _ (xs ys : List Record) where
+  table-length : length (map fresh (xs ++ ys)) ≡ length xs + length ys
+  table-length = length-map (xs ++ ys) fresh ∙ length-append xs ys
+
+  pub ours-reach : (p : ℕ) → reaches (owns (length xs)) (map fresh (xs ++ ys)) Ours p ≡ ltb p (length xs)
+  ours-reach p = go (ltb p (length xs)) refl
+    where
+      go : (b : Bool) → ltb p (length xs) ≡ b → b && ltb p (length (map fresh (xs ++ ys))) ≡ b
+      go true e = lt-ltb p (length (map fresh (xs ++ ys))) (omega (arith, ltb-true p (length xs) e, table-length))
+      go false e = refl
+
+  pub theirs-reach : (p : ℕ) → reaches (owns (length xs)) (map fresh (xs ++ ys)) Partner p ≡ leb (length xs) p && ltb p (length xs + length ys)
+  theirs-reach p = ap (λ (n : ℕ). leb (length xs) p && ltb p n) table-length

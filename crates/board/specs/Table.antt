@@ -1,4 +1,4 @@
--- A plain table of lots, what a call on it is told, and the table after it (document 02, No. 6). Definitions only.
+-- A plain table of lots, what a call on it is told, and the table after it (document 02, No. 6 and 11). Definitions only.
 use mathlib.Core.Path.{_≡_}
 use mathlib.Core.Bool.{Bool, true, false, _&&_, cond}
 use mathlib.Core.List.{List, [], _∷_, map}
@@ -49,6 +49,10 @@ pub data Call (Who : Type 0) : Type 0 where
   reads : Who → (place : ℕ) → Call Who
   assigns : Who → (place stamp job : ℕ) → Call Who
 
+abbrev pub caller : {Who : Type 0} → Call Who → Who
+caller (reads w p) = w
+caller (assigns w p stamp job) = w
+
 -- an assignment to a lot is told: refusal 18 with the current stamp, then 19, or that the job is stored
 abbrev pub assignTold : Lot → ℕ → Told
 assignTold l stamp = cond (eqb stamp (l .stamp)) (cond (eqb stamp lastStamp) (Refused LastStamp 0) Stored) (Refused StaleStamp (l .stamp))
@@ -98,7 +102,3 @@ module _ {Who : Type 0} (may : Who → ℕ → Bool) where
   abbrev pub Untouched : ℕ → List Lot → List (Call Who) → Type 0
   Untouched p t [] = Unit
   Untouched p t (c ∷ cs) = Spares p t c × Untouched p (next t c) cs
-
--- where it does not matter who calls
-pub data Anyone : Type 0 where
-  anyone : Anyone

@@ -15,7 +15,7 @@ put-length true t p job = length-set t p (withJob (lotAt t p) job)
 put-length false t p job = refl
 
 -- every other place keeps its lot
-put-other : (b : Bool) (t : List Lot) (q job p : ℕ) → (p ≡ q → ⊥) → lotAt (put b t q job) p ≡ lotAt t p
+pub put-other : (b : Bool) (t : List Lot) (q job p : ℕ) → (p ≡ q → ⊥) → lotAt (put b t q job) p ≡ lotAt t p
 put-other true t q job p f = getD-set-other t q p (withJob (lotAt t q) job) zeroLot f
 put-other false t q job p f = refl
 
@@ -33,7 +33,7 @@ module _ {Who : Type 0} (may : Who → ℕ → Bool) where
   next-length t (reads w p) = refl
   next-length t (assigns w p stamp job) = put-length (isStored (tell may t (assigns w p stamp job))) t p job
 
-  next-spares : (t : List Lot) (c : Call Who) (p : ℕ) → Spares may p t c → lotAt (next may t c) p ≡ lotAt t p
+  pub next-spares : (t : List Lot) (c : Call Who) (p : ℕ) → Spares may p t c → lotAt (next may t c) p ≡ lotAt t p
   next-spares t (reads w q) p f = refl
   next-spares t (assigns w q stamp job) p f = go (isStored (tell may t (assigns w q stamp job))) f
     where

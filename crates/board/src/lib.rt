@@ -1,13 +1,14 @@
-// A board of lots that several callers share (document 02, No. 6).
+// A board of lots that dispatchers of two houses share (document 02, No. 6 and 11).
 use records::Record;
 use records::ZERO_RECORD;
 use refusal::Refusal;
 ghost use mathlib.Core.Path.{_≡_};
-ghost use mathlib.Core.List.{[], map};
-ghost use Prim.Native.Nat.{_≤_};
+ghost use mathlib.Core.List.{[], _++_, map};
+ghost use Prim.Native.Nat.{_+_, _≤_};
+ghost use lib.Dec.{leb};
 ghost use Rattle.records.specs.Columns.{columns, sizeOf, listOf};
-ghost use Rattle.board.specs.Table.{mostLots, fresh, anyone, reads, assigns};
-ghost use Rattle.board.specs.Boards.{boardOf, everywhere, loaded, handed};
+ghost use Rattle.board.specs.Table.{mostLots, fresh, reads, assigns};
+ghost use Rattle.board.specs.Boards.{boardOf, tableOf, owns, loaded, handed};
 ghost use Rattle.board.specs.Code.Places.{hasLot};
 
 // The most lots of a board.
@@ -15,6 +16,12 @@ const MOST_LOTS: usize = 64;
 
 // The largest stamp.
 const LAST_STAMP: u16 = 65535;
+
+// A house that has lots on the board: ours, or the partner's.
+pub enum Party {
+    Ours,
+    Partner,
+}
 
 // A record with what is decided about it.
 #[repr(C)]
@@ -33,9 +40,11 @@ pub const ZERO_LOT: Lot = Lot {
     stamp: 0,
 };
 
-// The lots in the order of their places, from 0; the slots beyond them are zero.
+// The lots in the order of their places, from 0: ours, then the partner's; the slots beyond them are zero.
 #[repr(C)]
 pub struct Board {
+    // How many lots are ours, and how many there are.
+    ours: usize,
     count: usize,
     lots: [Lot; MOST_LOTS],
 }
@@ -58,56 +67,83 @@ pub struct Answered {
     pub told: Told,
 }
 
-// Whether a place of a board with this count has a lot.
-fn has_lot(count: usize, place: usize) -> bool
-    ensures { λ r. ⌜ r ≡ hasLot count place ⌝ }
+// Whether two lists have at most 64 records together.
+fn fits(n: usize, m: usize) -> bool
+    ensures { λ r. ⌜ r ≡ leb (n + m) mostLots ⌝ }
 {
-    (place < MOST_LOTS) & (place < count)
+    if MOST_LOTS < n {
+        return false;
+    }
+    m <= MOST_LOTS - n
 }
 
-// The board of a list of at most 64 records.
-fn fill(
-    n: usize,
-    u: &[u32],
-    v: &[u32],
-    place: &[u16],
-    low: &[u16],
-    high: &[u16],
-    duv: &[i32],
-    steps: &[u8],
-    class: &[u8],
-) -> Board
-    requires { ⌜ (n ≡ sizeOf (columns (now u) (now v) (now place) (now low) (now high) (now duv) (now steps) (now class))) × (n ≤ mostLots) ⌝ }
-    ensures { λ r. ⌜ r ≡ boardOf (map fresh (listOf (columns (now (u .entry)) (now (v .entry)) (now (place .entry)) (now (low .entry)) (now (high .entry)) (now (duv .entry)) (now (steps .entry)) (now (class .entry))))) ⌝ }
+// Whether a place is the party's on a board whose first places are ours, so many.
+fn is_own(ours: usize, party: Party, place: usize) -> bool
+    ensures { λ r. ⌜ r ≡ owns ours party place ⌝ }
 {
-    let mut lots = [ZERO_LOT; MOST_LOTS];
-    let mut i: usize = 0;
-    while i < n {
-        lots[i] = Lot {
-            record: records::list_record(u, v, place, low, high, duv, steps, class, i),
-            job: 0,
-            stamp: 0,
-        };
-        i += 1;
+    match party {
+        Party::Ours => place < ours,
+        Party::Partner => ours <= place,
     }
-    Board {
-        count: n,
-        lots: lots,
-    }
+}
+
+// Whether a board with these counts has a lot of the party's at a place.
+fn has_lot(ours: usize, count: usize, party: Party, place: usize) -> bool
+    ensures { λ r. ⌜ r ≡ hasLot ours count party place ⌝ }
+{
+    is_own(ours, party, place) & ((place < MOST_LOTS) & (place < count))
 }
 
 impl Board {
-    // The board of no lots.
-    fn empty() -> Board
-        ensures { λ r. ⌜ r ≡ boardOf [] ⌝ }
+    // The board of no lots; `ours` says how many places are to be ours.
+    fn empty(ours: usize) -> Board
+        ensures { λ r. ⌜ r ≡ boardOf ours [] ⌝ }
     {
         Board {
+            ours: ours,
             count: 0,
             lots: [ZERO_LOT; MOST_LOTS],
         }
     }
 
-    // Loads the records of a list, in its order; a refusal hands back the board of no lots.
+    // The board with the n records of a list behind its lots.
+    fn with_list(
+        mut self,
+        n: usize,
+        u: &[u32],
+        v: &[u32],
+        place: &[u16],
+        low: &[u16],
+        high: &[u16],
+        duv: &[i32],
+        steps: &[u8],
+        class: &[u8],
+    ) -> Board
+        requires list { ⌜ n ≡ sizeOf (columns (now u) (now v) (now place) (now low) (now high) (now duv) (now steps) (now class)) ⌝ }
+        requires room { ⌜ self .count + n ≤ mostLots ⌝ }
+        requires board { ⌜ self ≡ boardOf (self .ours) (tableOf self) ⌝ }
+        ensures { λ r. ⌜ r ≡ boardOf (self .ours) (tableOf self ++ map fresh (listOf (columns (now (u .entry)) (now (v .entry)) (now (place .entry)) (now (low .entry)) (now (high .entry)) (now (duv .entry)) (now (steps .entry)) (now (class .entry))))) ⌝ }
+    {
+        let first = self.count;
+        let mut lots = self.lots;
+        let mut i: usize = 0;
+        while i < n {
+            lots[first + i] = Lot {
+                record: records::list_record(u, v, place, low, high, duv, steps, class, i),
+                job: 0,
+                stamp: 0,
+            };
+            i += 1;
+        }
+        Board {
+            ours: self.ours,
+            count: first + n,
+            lots: lots,
+        }
+    }
+
+    // Loads the records of two lists, each in its order: ours, and behind them the partner's, in the columns with a 2. A refusal hands
+    // back the board of no lots.
     pub fn load(
         u: &[u32],
         v: &[u32],
@@ -117,29 +153,42 @@ impl Board {
         duv: &[i32],
         steps: &[u8],
         class: &[u8],
+        u2: &[u32],
+        v2: &[u32],
+        place2: &[u16],
+        low2: &[u16],
+        high2: &[u16],
+        duv2: &[i32],
+        steps2: &[u8],
+        class2: &[u8],
     ) -> Answered
-        ensures answered { λ r. ⌜ r ≡ loaded (listOf (columns (now (u .entry)) (now (v .entry)) (now (place .entry)) (now (low .entry)) (now (high .entry)) (now (duv .entry)) (now (steps .entry)) (now (class .entry)))) ⌝ }
+        ensures answered { λ r. ⌜ r ≡ loaded (listOf (columns (now (u .entry)) (now (v .entry)) (now (place .entry)) (now (low .entry)) (now (high .entry)) (now (duv .entry)) (now (steps .entry)) (now (class .entry)))) (listOf (columns (now (u2 .entry)) (now (v2 .entry)) (now (place2 .entry)) (now (low2 .entry)) (now (high2 .entry)) (now (duv2 .entry)) (now (steps2 .entry)) (now (class2 .entry)))) ⌝ }
         ensures unchanged { λ _. ⌜ columns (now (u .exit)) (now (v .exit)) (now (place .exit)) (now (low .exit)) (now (high .exit)) (now (duv .exit)) (now (steps .exit)) (now (class .exit)) ≡ columns (now (u .entry)) (now (v .entry)) (now (place .entry)) (now (low .entry)) (now (high .entry)) (now (duv .entry)) (now (steps .entry)) (now (class .entry)) ⌝ }
+        ensures theirs_unchanged { λ _. ⌜ columns (now (u2 .exit)) (now (v2 .exit)) (now (place2 .exit)) (now (low2 .exit)) (now (high2 .exit)) (now (duv2 .exit)) (now (steps2 .exit)) (now (class2 .exit)) ≡ columns (now (u2 .entry)) (now (v2 .entry)) (now (place2 .entry)) (now (low2 .entry)) (now (high2 .entry)) (now (duv2 .entry)) (now (steps2 .entry)) (now (class2 .entry)) ⌝ }
     {
         let n = records::list_length(u, v, place, low, high, duv, steps, class);
-        if MOST_LOTS < n {
+        let m = records::list_length(u2, v2, place2, low2, high2, duv2, steps2, class2);
+        if !fits(n, m) {
             return Answered {
-                board: Board::empty(),
+                board: Board::empty(0),
                 told: Told::Refused(Refusal::TooManyLots, 0),
             };
         }
+        let ours = Board::empty(n).with_list(n, u, v, place, low, high, duv, steps, class);
+        let both = ours.with_list(m, u2, v2, place2, low2, high2, duv2, steps2, class2);
         Answered {
-            board: fill(n, u, v, place, low, high, duv, steps, class),
+            board: both,
             told: Told::Loaded,
         }
     }
 
-    // Reads the lot at a place.
-    pub fn read(mut self, place: usize) -> Answered
-        ensures { λ r. ⌜ r ≡ handed everywhere self (reads anyone place) ⌝ }
+    // Reads the lot at a place of the party's.
+    pub fn read(mut self, party: Party, place: usize) -> Answered
+        ensures { λ r. ⌜ r ≡ handed self (reads party place) ⌝ }
     {
+        let ours = self.ours;
         let count = self.count;
-        if has_lot(count, place) {
+        if has_lot(ours, count, party, place) {
             let lot = self.lots[place];
             return Answered {
                 board: self,
@@ -152,12 +201,13 @@ impl Board {
         }
     }
 
-    // Stores a job at a place whose current stamp the caller has seen, and raises the stamp by one.
-    pub fn assign(mut self, place: usize, stamp: u16, job: u32) -> Answered
-        ensures { λ r. ⌜ r ≡ handed everywhere self (assigns anyone place stamp job) ⌝ }
+    // Stores a job at a place of the party's whose current stamp the caller has seen, and raises the stamp by one.
+    pub fn assign(mut self, party: Party, place: usize, stamp: u16, job: u32) -> Answered
+        ensures { λ r. ⌜ r ≡ handed self (assigns party place stamp job) ⌝ }
     {
+        let ours = self.ours;
         let count = self.count;
-        if !has_lot(count, place) {
+        if !has_lot(ours, count, party, place) {
             return Answered {
                 board: self,
                 told: Told::Refused(Refusal::NoSuchPlace, 0),

@@ -1,4 +1,4 @@
-// Boards: a history of calls on a board that is loaded from the columns held.
+// Boards: a history of calls of two houses on a board that is loaded from the columns held.
 use crate::columns;
 use crate::fields;
 use crate::lists;
@@ -11,16 +11,22 @@ use crate::targets;
 use board::Answered;
 use board::Board;
 use board::Lot;
+use board::Party;
 use board::Told;
 use board::ZERO_LOT;
 use records::Record;
 use refusal::Refusal;
 ghost use Prim.Native.Nat.{_≤_, _<_};
 
-// The letters of the calls, by their ASCII bytes; any other word counts as n.
+// The letters of our calls, by their ASCII bytes; any other word counts as n. The partner's are the same in capitals.
 const READ: u64 = 0x72;
 
 const ASSIGN: u64 = 0x61;
+
+// The least byte of a small letter, and how much less its capital is.
+const FIRST_SMALL: u64 = 0x61;
+
+const TO_CAPITAL: u64 = 0x20;
 
 // After each call the places from 0 on are shown, up to this number.
 const SHOWN_PLACES: usize = 65;
@@ -33,8 +39,15 @@ struct Field {
     end: usize,
 }
 
+// The letter of a call as a small one, and whose call it is.
+struct Letter {
+    small: u64,
+    is_partner: bool,
+}
+
 // A call as a line names it, and where it ends. A read has a place only; `times` is how many assignments are made.
 struct Call {
+    is_partner: bool,
     is_read: bool,
     place: usize,
     stamp: u16,
@@ -59,6 +72,20 @@ fn number_after(text: &[u8], at: usize) -> Field
     }
 }
 
+// The letter of a word, and whose it is.
+fn letter_of(word: u64) -> Letter {
+    if word < FIRST_SMALL {
+        return Letter {
+            small: word + TO_CAPITAL,
+            is_partner: true,
+        };
+    }
+    Letter {
+        small: word,
+        is_partner: false,
+    }
+}
+
 // The call after the space at an index.
 fn call_after(text: &[u8], at: usize) -> Call
     requires { do ⌜ at < (← ⟦text.len()⟧) ⌝ }
@@ -66,10 +93,11 @@ fn call_after(text: &[u8], at: usize) -> Call
 {
     let start = at + 1;
     let end = fields::find(text, start, b' ');
-    let letter = fields::word(&text[start..end]);
+    let letter = letter_of(fields::word(&text[start..end]));
     let place = number_after(text, end);
-    if letter == READ {
+    if letter.small == READ {
         return Call {
+            is_partner: letter.is_partner,
             is_read: true,
             place: place.value as usize,
             stamp: 0,
@@ -78,7 +106,7 @@ fn call_after(text: &[u8], at: usize) -> Call
             end: place.end,
         };
     }
-    assignments_after(text, place, letter == ASSIGN)
+    assignments_after(text, letter.is_partner, place, letter.small == ASSIGN)
 }
 
 // How many assignments are made: one, or the number after the space at an index.
@@ -92,8 +120,8 @@ fn times_after(text: &[u8], at: usize, is_one: bool) -> Field
     number_after(text, at)
 }
 
-// The assignments to a place, from the numbers after it.
-fn assignments_after(text: &[u8], place: Field, is_one: bool) -> Call
+// The assignments of a party to a place, from the numbers after it.
+fn assignments_after(text: &[u8], is_partner: bool, place: Field, is_one: bool) -> Call
     requires { do ⌜ place .end ≤ (← ⟦text.len()⟧) ⌝ }
     ensures { λ r. do ⌜ (place .end ≤ r .end) × (r .end ≤ (← ⟦text.len()⟧ .entry)) ⌝ }
 {
@@ -101,6 +129,7 @@ fn assignments_after(text: &[u8], place: Field, is_one: bool) -> Call
     let job = number_after(text, stamp.end);
     let times = times_after(text, job.end, is_one);
     Call {
+        is_partner: is_partner,
         is_read: false,
         place: place.value as usize,
         stamp: (stamp.value % 65536) as u16,
@@ -111,8 +140,15 @@ fn assignments_after(text: &[u8], place: Field, is_one: bool) -> Call
 }
 
 // Assignments with stamp after stamp, up to the largest; at least one is made, and the last one's answer is given.
-fn assign_in_a_row(board: Board, place: usize, stamp: u16, job: u32, times: u32) -> Answered {
-    let mut answered = board.assign(place, stamp, job);
+fn assign_in_a_row(
+    board: Board,
+    party: Party,
+    place: usize,
+    stamp: u16,
+    job: u32,
+    times: u32,
+) -> Answered {
+    let mut answered = board.assign(party, place, stamp, job);
     let mut last = stamp;
     let mut left = times;
     while left > 1 {
@@ -122,17 +158,27 @@ fn assign_in_a_row(board: Board, place: usize, stamp: u16, job: u32, times: u32)
         last += 1;
         left -= 1;
         let held = answered.board;
-        answered = held.assign(place, last, job);
+        answered = held.assign(party, place, last, job);
     }
     answered
 }
 
+// Whose a call is.
+fn party_of(is_partner: bool) -> Party {
+    if is_partner {
+        Party::Partner
+    } else {
+        Party::Ours
+    }
+}
+
 // Makes a call.
 fn make(board: Board, call: Call) -> Answered {
+    let party = party_of(call.is_partner);
     if call.is_read {
-        return board.read(call.place);
+        return board.read(party, call.place);
     }
-    assign_in_a_row(board, call.place, call.stamp, call.job, call.times)
+    assign_in_a_row(board, party, call.place, call.stamp, call.job, call.times)
 }
 
 // The number of the refusal told, 0 for none.
@@ -184,7 +230,18 @@ fn with_lot(sum: u64, lot: Lot) -> u64
     parts::with_number(job, targets::wide_16(lot.stamp))
 }
 
-// A checksum with what a read of each place is told.
+// A checksum with what a party's read of a place is told.
+fn with_read(sum: u64, board: Board, party: Party, place: usize) -> u64
+    requires { ⌜ sum < 4294967291 ⌝ }
+    ensures { λ r. ⌜ r < 4294967291 ⌝ }
+{
+    let answered = board.read(party, place);
+    let told = answered.told;
+    let refusal = parts::with_number(sum, refusal_of(told));
+    with_lot(refusal, lot_of(told))
+}
+
+// A checksum with what reads of each place are told, ours and then the partner's.
 fn with_board(sum: u64, board: Board) -> u64
     requires { ⌜ sum < 4294967291 ⌝ }
     ensures { λ r. ⌜ r < 4294967291 ⌝ }
@@ -192,10 +249,8 @@ fn with_board(sum: u64, board: Board) -> u64
     let mut total = sum;
     let mut place: usize = 0;
     while place < SHOWN_PLACES {
-        let answered = board.read(place);
-        let told = answered.told;
-        let refusal = parts::with_number(total, refusal_of(told));
-        total = with_lot(refusal, lot_of(told));
+        let ours = with_read(total, board, Party::Ours, place);
+        total = with_read(ours, board, Party::Partner, place);
         place += 1;
     }
     total
@@ -213,8 +268,40 @@ fn with_answered(sum: u64, answered: Answered) -> u64
     with_board(lot, answered.board)
 }
 
-// A board loaded from the columns that are held.
-fn load_held(lists: &Lists) -> Answered {
+// A board loaded from columns that are cut in two.
+fn load_split(
+    split: usize,
+    u: &[u32],
+    v: &[u32],
+    place: &[u16],
+    low: &[u16],
+    high: &[u16],
+    duv: &[i32],
+    steps: &[u8],
+    class: &[u8],
+) -> Answered {
+    Board::load(
+        columns::front_32(u, split),
+        columns::front_32(v, split),
+        columns::front_16(place, split),
+        columns::front_16(low, split),
+        columns::front_16(high, split),
+        columns::front_signed(duv, split),
+        columns::front_8(steps, split),
+        columns::front_8(class, split),
+        columns::rest_32(u, split),
+        columns::rest_32(v, split),
+        columns::rest_16(place, split),
+        columns::rest_16(low, split),
+        columns::rest_16(high, split),
+        columns::rest_signed(duv, split),
+        columns::rest_8(steps, split),
+        columns::rest_8(class, split),
+    )
+}
+
+// A board loaded from the columns that are held: of each the first numbers, up to `split`, are ours, and the others the partner's.
+fn load_held(lists: &Lists, split: usize) -> Answered {
     let mut place = [0u16; COLUMN_ROOM];
     let mut low = [0u16; COLUMN_ROOM];
     let mut high = [0u16; COLUMN_ROOM];
@@ -227,7 +314,8 @@ fn load_held(lists: &Lists) -> Answered {
     let duvs = columns::fill_signed(lists::numbers(lists, List::Duv), &mut duv);
     let step_counts = columns::fill_8(lists::numbers(lists, List::Steps), &mut steps);
     let classes = columns::fill_8(lists::numbers(lists, List::Class), &mut class);
-    Board::load(
+    load_split(
+        split,
         lists::numbers(lists, List::U),
         lists::numbers(lists, List::V),
         &places[..],
@@ -245,15 +333,16 @@ fn put_told(told: Told, out: &mut [u8; 65536], at: usize) -> usize {
     put::number(out, first, stamp_of(told) as u64)
 }
 
-// `refusal` of the load, `refusal stamp` of each call that a text names, and a checksum. The board is a local of this one
+// `refusal` of the load that the text's first number splits, `refusal stamp` of each call that it then names, and a checksum. The board is a local of this one
 // loop, since what holds things from line to line is arrays of numbers.
 pub(crate) fn history(text: &[u8], lists: &Lists, out: &mut [u8; 65536], at: usize) -> usize {
-    let loaded = load_held(lists);
+    let split = number_after(text, 0);
+    let loaded = load_held(lists, split.value as usize);
     let loading = loaded.told;
     let mut board = loaded.board;
     let mut sum = with_answered(0, loaded);
     let mut end = put::number(out, at, refusal_of(loading) as u64);
-    let mut i = 0;
+    let mut i = split.end;
     while i < text.len() {
         let call = call_after(text, i);
         let answered = make(board, call);

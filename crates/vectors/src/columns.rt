@@ -66,3 +66,48 @@ pub(crate) fn fill_32<'a>(numbers: &[u32], column: &'a mut [u32]) -> &'a mut [u3
     }
     &mut column[start..end]
 }
+
+// The numbers of a column before an index, and those from it on; all of them, and none, where it has fewer.
+pub(crate) fn front_8(column: &[u8], at: usize) -> &[u8] {
+    let start = 0;
+    let end = lesser(at, column.len());
+    &column[start..end]
+}
+
+pub(crate) fn rest_8(column: &[u8], at: usize) -> &[u8] {
+    let start = lesser(at, column.len());
+    &column[start..]
+}
+
+pub(crate) fn front_16(column: &[u16], at: usize) -> &[u16] {
+    let start = 0;
+    let end = lesser(at, column.len());
+    &column[start..end]
+}
+
+pub(crate) fn rest_16(column: &[u16], at: usize) -> &[u16] {
+    let start = lesser(at, column.len());
+    &column[start..]
+}
+
+pub(crate) fn front_32(column: &[u32], at: usize) -> &[u32] {
+    let start = 0;
+    let end = lesser(at, column.len());
+    &column[start..end]
+}
+
+pub(crate) fn rest_32(column: &[u32], at: usize) -> &[u32] {
+    let start = lesser(at, column.len());
+    &column[start..]
+}
+
+pub(crate) fn front_signed(column: &[i32], at: usize) -> &[i32] {
+    let start = 0;
+    let end = lesser(at, column.len());
+    &column[start..end]
+}
+
+pub(crate) fn rest_signed(column: &[i32], at: usize) -> &[i32] {
+    let start = lesser(at, column.len());
+    &column[start..]
+}

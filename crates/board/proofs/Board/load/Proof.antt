@@ -1,13 +1,14 @@
--- `load` meets its contract: refused by the length of the list, or filled with it.
-use mathlib.Core.Path.{refl, ap, sym, _∙_}
+-- `load` meets its contract: refused by the length of both lists, or our list is put on a board, and theirs behind it.
+use mathlib.Core.Path.{_≡_, refl, sym, _∙_}
+use mathlib.Core.Bool.{true}
+use Prim.Native.Nat.{_+_}
 use native.Mathlib.Omega.{arith}
+use lib.Dec.{leb}
 use borrow.Author.Needs.{needs}
-use Rattle.records.specs.Columns.{Columns, columns, listOf}
-use Rattle.records.specs.ColumnsLaws.{length-list}
-use Rattle.refusal.specs.declared.Refusal.the-variants.{TooManyLots}
-use Rattle.board.specs.declared.Board.{Board}
-use Rattle.board.specs.declared.Told.the-variants.{Loaded, Refused}
-use Rattle.board.specs.RuleLaws.{load-over, load-taken}
+use borrow.Author.Tests.{not-true, not-false}
+use Rattle.records.specs.Columns.{Columns, columns}
+use Rattle.board.specs.Table.{mostLots}
+use Rattle.board.proofs.Loading.{refused, own, room, own-ours, room-theirs, taken}
 use Rattle.board.proofs.Board.load.Statement.{statement}
 use Rattle.board.proofs.Board.load.Tie as tie
 
@@ -15,25 +16,69 @@ use Rattle.board.proofs.Board.load.Tie as tie
 abbrev given : tie.Start → Columns
 given s = columns (s .args .u .now) (s .args .v .now) (s .args .place .now) (s .args .low .now) (s .args .high .now) (s .args .duv .now) (s .args .steps .now) (s .args .class .now)
 
+abbrev theirs : tie.Start → Columns
+theirs s = columns (s .args .u2 .now) (s .args .v2 .now) (s .args .place2 .now) (s .args .low2 .now) (s .args .high2 .now) (s .args .duv2 .now) (s .args .steps2 .now) (s .args .class2 .now)
+
 list-length-requires : tie.Need-list-length-requires
 list-length-requires c κs = search needs
+
+list-length-requires-2 : tie.Need-list-length-requires-2
+list-length-requires-2 c κs = search needs
+
+fits-requires : tie.Need-fits-requires
+fits-requires c κs = search needs
 
 empty-requires : tie.Need-empty-requires
 empty-requires c κs = search needs
 
 returns : tie.Need-returns
 returns c =
-    let l = given (c .before .before .before .before .before .before .before .before .before .before) in
-    (ap (λ (b : Board). record { board = b; told = Refused TooManyLots 0 }) (c .empty .ensures) ∙ sym (load-over (listOf l) (omega (arith, c .before .before .list-length .ensures .0, length-list l))), refl)
+    let start = c .before .before .before .before .before .before .before .before .before .before .before .before .before .before .before .before .before .before .before in
+    (refused (given start) (theirs start) (c .before .before .before .before .list-length .ensures .0) (c .before .before .before .list-length2 .ensures .0) (sym (c .before .before .fits2 .ensures) ∙ not-true _ (c .before .if1 .taken)) (c .empty .ensures), (refl {a = given start}, refl {a = theirs start}))
 
-fill-requires : tie.Need-fill-requires
-fill-requires c κs = search needs
+empty-requires-2 : tie.Need-empty-requires-2
+empty-requires-2 c κs = search needs
+
+-- both lists fit
+fit : (c : tie.Else1) → leb (c .before .before .before .list-length .result + c .before .before .list-length2 .result) mostLots ≡ true
+fit c = sym (c .before .fits2 .ensures) ∙ not-false _ (c .if1 .left)
+
+with-list-requires : tie.Need-with-list-requires
+with-list-requires c κs =
+    let start = c .before .before .before .before .before .before .before .before .before .before .before .before .before .before .before .before .before .before .before in
+    let n = c .before .before .before .before .list-length .ensures .0 in
+    let m = c .before .before .before .list-length2 .ensures .0 in
+    let e = c .empty2 .ensures in
+    let f = fit (c .before) in
+    (search needs, (omega (arith, room (given start) (theirs start) n m f e), own (given start) (theirs start) n m f e))
+
+with-list-requires-2 : tie.Need-with-list-requires-2
+with-list-requires-2 c κs =
+    let start = c .before .before .before .before .before .before .before .before .before .before .before .before .before .before .before .before .before .before .before .before in
+    let n = c .before .before .before .before .before .list-length .ensures .0 in
+    let m = c .before .before .before .before .list-length2 .ensures .0 in
+    let e = c .before .empty2 .ensures in
+    let g = c .with-list .ensures in
+    let f = fit (c .before .before) in
+    (search needs, (room-theirs (given start) (theirs start) n m f e g, own-ours (given start) (theirs start) n m f e g))
 
 returns-2 : tie.Need-returns-2
 returns-2 c =
-    let l = given (c .before .before .before .before .before .before .before .before .before .before) in
-    (ap (λ (b : Board). record { board = b; told = Loaded }) (c .fill .ensures) ∙ sym (load-taken (listOf l) (omega (arith, c .before .before .list-length .ensures .0, length-list l))), refl)
+    let start = c .before .before .before .before .before .before .before .before .before .before .before .before .before .before .before .before .before .before .before .before .before in
+    let n = c .before .before .before .before .before .before .list-length .ensures .0 in
+    let m = c .before .before .before .before .before .list-length2 .ensures .0 in
+    (taken (given start) (theirs start) n m (fit (c .before .before .before)) (c .before .before .empty2 .ensures) (c .before .with-list .ensures) (c .with-list2 .ensures), (refl {a = given start}, refl {a = theirs start}))
 
 pub load-spec : {M : Type 1} → statement M
 load-spec =
-    tie.close (tie.spec list-length-requires empty-requires returns fill-requires returns-2)
+    tie.close
+    (tie.spec
+    list-length-requires
+    list-length-requires-2
+    fits-requires
+    empty-requires
+    returns
+    empty-requires-2
+    with-list-requires
+    with-list-requires-2
+    returns-2)

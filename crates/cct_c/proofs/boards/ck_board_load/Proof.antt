@@ -12,7 +12,7 @@ plain-answered-requires : tie.Need-plain-answered-requires
 plain-answered-requires c κs = search needs
 
 returns : tie.Need-returns
-returns c = (c .plain-answered .ensures ∙ ap plainAnswered (c .before .load .ensures .0), refl)
+returns c = (c .plain-answered .ensures ∙ ap plainAnswered (c .before .load .ensures .0), (refl, refl))
 
 pub ck-board-load-spec : {M : Type 1} → statement M
 ck-board-load-spec = tie.close (tie.spec load-requires plain-answered-requires returns)

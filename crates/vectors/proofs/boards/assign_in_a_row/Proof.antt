@@ -4,10 +4,10 @@ use Rattle.vectors.proofs.boards.assign_in_a_row.Statement.{statement}
 use Rattle.vectors.proofs.boards.assign_in_a_row.Tie as tie
 
 abbrev Inv-loop : tie.InvT-loop
-Inv-loop place stamp job times answered₀ last₀ left₀ answered last left = Unit {0}
+Inv-loop party place stamp job times answered₀ last₀ left₀ answered last left = Unit {0}
 
 abbrev μ-loop : tie.MeasureT-loop
-μ-loop place stamp job times answered₀ last₀ left₀ answered last left = left
+μ-loop party place stamp job times answered₀ last₀ left₀ answered last left = left
 
 pub assign-in-a-row-spec : {M : Type 1} → statement M
 assign-in-a-row-spec =
