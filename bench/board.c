@@ -1,5 +1,6 @@
-/* Times an assignment and a read on a board of 64 lots by the library, by the same rules in plain C by value, and in plain C in place.
- * First the three are held to each other over random histories. A copy of a board alone is timed beside them. */
+/* Times an assignment and a read on a board of 64 lots, 40 of them ours and 24 the partner's, by the library, by the same rules in plain C
+ * by value, and in plain C in place. First the three are held to each other over random histories. A copy of a board alone is timed
+ * beside them. */
 #include "measure.h"
 #include "plain_board.h"
 
@@ -7,7 +8,7 @@
 #include <stdlib.h>
 #include <string.h>
 
-enum { LOTS = CK_MOST_LOTS, HISTORIES = 300, HISTORY = 400, CALLS = 20000, ROUNDS = 101 };
+enum { LOTS = CK_MOST_LOTS, OUR_LOTS = 40, HISTORIES = 300, HISTORY = 400, CALLS = 20000, ROUNDS = 101 };
 
 typedef struct {
     uint32_t u[LOTS + 1], v[LOTS + 1];
@@ -27,9 +28,12 @@ static void make_records(void) {
     }
 }
 
-static ck_board_answer load_by(load_board *load, size_t n) {
+/* A load of `count` records, the first n of them ours. */
+static ck_board_answer load_by(load_board *load, size_t n, size_t count) {
     const columns *c = &given;
-    return load(c->u, n, c->v, n, c->place, n, c->low, n, c->high, n, c->duv, n, c->steps, n, c->class_index, n);
+    size_t m = count - n;
+    return load(c->u, n, c->v, n, c->place, n, c->low, n, c->high, n, c->duv, n, c->steps, n, c->class_index, n, c->u + n, m, c->v + n, m,
+                c->place + n, m, c->low + n, m, c->high + n, m, c->duv + n, m, c->steps + n, m, c->class_index + n, m);
 }
 
 /* --- Equal answers ------------------------------------------------------------------------------------------------- */
@@ -41,7 +45,7 @@ static int same_lot(const ck_lot *a, const ck_lot *b) {
 }
 
 static int same_board(const ck_board *a, const ck_board *b) {
-    if (a->count != b->count) return 0;
+    if (a->ours != b->ours || a->count != b->count) return 0;
     for (size_t i = 0; i < LOTS; i++)
         if (!same_lot(&a->lots[i], &b->lots[i])) return 0;
     return 1;
@@ -63,21 +67,28 @@ static uint16_t some_stamp(const ck_board *board, size_t place) {
     return below(8) == 0 ? (uint16_t)below(65536) : (uint16_t)(current + (below(4) == 0 ? below(3) : 0));
 }
 
-/* The three make the same calls, from a load of 0 to 65 records, some lots near the last stamp. */
+/* The house that has a place, and one time in eight any number. */
+static uint8_t some_party(const ck_board *board, size_t place) {
+    return below(8) == 0 ? (uint8_t)below(256) : place < board->ours ? CK_OURS : CK_PARTNER;
+}
+
+/* The three make the same calls, from a load of 0 to 65 records, any number of them ours, some lots near the last stamp. */
 static void require_same_history(size_t count) {
-    ck_board_answer proved = load_by(ck_board_load, count), plain = load_by(plain_board_load, count);
+    size_t ours = (size_t)below(count + 1);
+    ck_board_answer proved = load_by(ck_board_load, ours, count), plain = load_by(plain_board_load, ours, count);
     require_same(&proved, &plain, "loading");
     for (size_t i = 0; i < plain.board.count; i++)
         if (below(8) == 0) proved.board.lots[i].stamp = plain.board.lots[i].stamp = (uint16_t)(65533 + below(3));
     ck_board_answer in_place = plain;
     for (int i = 0; i < HISTORY; i++) {
         size_t place = (size_t)(below(16) == 0 ? below(UINT64_MAX) : below(count + 2));
+        uint8_t who = some_party(&plain.board, place);
         uint16_t stamp = some_stamp(&plain.board, place);
         uint32_t job = (uint32_t)below(1ull << 32);
         int is_read = below(3) == 0;
-        proved = is_read ? ck_board_read(proved.board, place) : ck_board_assign(proved.board, place, stamp, job);
-        plain = is_read ? plain_board_read(plain.board, place) : plain_board_assign(plain.board, place, stamp, job);
-        in_place.told = is_read ? in_place_read(&in_place.board, place) : in_place_assign(&in_place.board, place, stamp, job);
+        proved = is_read ? ck_board_read(proved.board, who, place) : ck_board_assign(proved.board, who, place, stamp, job);
+        plain = is_read ? plain_board_read(plain.board, who, place) : plain_board_assign(plain.board, who, place, stamp, job);
+        in_place.told = is_read ? in_place_read(&in_place.board, who, place) : in_place_assign(&in_place.board, who, place, stamp, job);
         require_same(&proved, &plain, "by value");
         require_same(&proved, &in_place, "in place");
     }
@@ -90,12 +101,14 @@ static const char *const NAMES[FORMS] = {"Cradlekeel", "plain C, by value", "pla
 
 static ck_board held;
 static size_t places[CALLS];
+static uint8_t houses[CALLS]; /* those that have the places */
 static uint16_t stamps[CALLS]; /* those that are current when the assignments are made one after the other */
 
 static void make_calls(void) {
     uint16_t current[LOTS] = {0};
     for (int i = 0; i < CALLS; i++) {
         places[i] = (size_t)below(LOTS);
+        houses[i] = places[i] < OUR_LOTS ? CK_OURS : CK_PARTNER;
         stamps[i] = current[places[i]]++;
     }
 }
@@ -104,7 +117,7 @@ static void make_calls(void) {
 static unsigned long assign_by(assign_board *assign) {
     unsigned long refused = 0;
     for (int i = 0; i < CALLS; i++) {
-        ck_board_answer a = assign(held, places[i], stamps[i], (uint32_t)i);
+        ck_board_answer a = assign(held, houses[i], places[i], stamps[i], (uint32_t)i);
         held = a.board;
         refused += a.told.refusal;
     }
@@ -114,7 +127,7 @@ static unsigned long assign_by(assign_board *assign) {
 static unsigned long read_by(read_board *read) {
     unsigned long sum = 0;
     for (int i = 0; i < CALLS; i++) {
-        ck_board_answer a = read(held, places[i]);
+        ck_board_answer a = read(held, houses[i], places[i]);
         held = a.board;
         sum += a.told.lot.stamp;
     }
@@ -123,13 +136,13 @@ static unsigned long read_by(read_board *read) {
 
 static unsigned long assign_in_place(void) {
     unsigned long refused = 0;
-    for (int i = 0; i < CALLS; i++) refused += in_place_assign(&held, places[i], stamps[i], (uint32_t)i).refusal;
+    for (int i = 0; i < CALLS; i++) refused += in_place_assign(&held, houses[i], places[i], stamps[i], (uint32_t)i).refusal;
     return refused;
 }
 
 static unsigned long read_in_place(void) {
     unsigned long sum = 0;
-    for (int i = 0; i < CALLS; i++) sum += in_place_read(&held, places[i]).lot.stamp;
+    for (int i = 0; i < CALLS; i++) sum += in_place_read(&held, houses[i], places[i]).lot.stamp;
     return sum;
 }
 
@@ -161,7 +174,7 @@ static void require(int holds, const char *what) {
 /* The assignments, all of them stored, and then the reads, on one board; the board after them is the same each time. */
 static void time_form(int form, double *assigning, double *reading) {
     static ck_board last;
-    held = load_by(ck_board_load, LOTS).board;
+    held = load_by(ck_board_load, OUR_LOTS, LOTS).board;
     double start = seconds();
     unsigned long refused = assign_all(form);
     keep_least(assigning, seconds() - start);

@@ -68,8 +68,8 @@ enum {
 /* Why a board was not loaded, or a call on it was refused: the value of `refusal` in ck_told. Loading can meet the first only, a read
  * the second, an assignment the last three, of which the first that applies is given. */
 enum {
-    CK_TOO_MANY_LOTS = 16, /* there are more than 64 records to load */
-    CK_NO_SUCH_PLACE = 17, /* the board has no lot at that place */
+    CK_TOO_MANY_LOTS = 16, /* there are more than 64 records to load, those of both houses together */
+    CK_NO_SUCH_PLACE = 17, /* the board has no lot at that place, or it is the other house's */
     CK_STALE_STAMP = 18,   /* the stamp is not the lot's current one, which is told; also where the current one is 65,535 */
     CK_LAST_STAMP = 19     /* the stamp is the lot's current one and is 65,535: it cannot go up, so nothing more can be stored */
 };
@@ -290,23 +290,33 @@ ck_salvaged ck_salvage(const uint8_t *bytes, size_t length, size_t record_length
  * the stamp is no longer current, nothing is stored, and he is told. From examples/board.c, a whole program in which Ann and Ben both
  * want the lot at place 0 (docs/BOARD.md tells the same to dispatchers):
  *
- *     ck_lot seen_by_ann = ck_board_read(board, 0).told.lot;
- *     ck_lot seen_by_ben = ck_board_read(board, 0).told.lot;
- *     ck_board_answer ann = ck_board_assign(board, 0, seen_by_ann.stamp, 4711);
+ *     ck_lot seen_by_ann = ck_board_read(board, CK_OURS, 0).told.lot;
+ *     ck_lot seen_by_ben = ck_board_read(board, CK_OURS, 0).told.lot;
+ *     ck_board_answer ann = ck_board_assign(board, CK_OURS, 0, seen_by_ann.stamp, 4711);
  *     board = ann.board;
- *     ck_board_answer ben = ck_board_assign(board, 0, seen_by_ben.stamp, 4712);
+ *     ck_board_answer ben = ck_board_assign(board, CK_OURS, 0, seen_by_ben.stamp, 4712);
  *     board = ben.board;
  *
  * ann.told.refusal is then CK_ACCEPTED, ben.told.refusal is CK_STALE_STAMP, ben.told.stamp is 1, and the board has Ann's job.
+ *
+ * Two houses may share a board: the first places are ours, and those behind them the partner's. A call is made in the name of a house, and
+ * a place of the other house is to it as a place without a lot: CK_NO_SUCH_PLACE, and nothing of the lot is told. From a load on, what a
+ * house is told and the lots that it has turn on its own load, the place of its first lot and its own calls alone; docs/BOARD.md says what
+ * that does not cover. The struct has the lots of both: hand a house what its calls are told, and not the board.
  *
  * A board is a value, as a number is: a function gets a copy and hands a board back, and no board that the caller has changes. To store
  * is to go on with the board that came back, so calls come one after the other, each on the newest board; where several threads or
  * programs share one, that is the caller's to see to. A board comes from ck_board_load, or is all zeros, which is the board of no lots;
  * of the calls on a board only ck_board_assign hands back one that differs, where the job is stored. Given any other bytes the functions
- * answer too: a place then has a lot where it is under `count` and under 64, and nothing outside the board is read or written. Boards
- * are compared field by field, since the structs have padding whose bytes may be anything. */
+ * answer too: a place then has a lot where it is under `count` and under 64, which is ours where it is under `ours` and otherwise the
+ * partner's, and nothing outside the board is read or written. Boards are compared field by field, since the structs have padding whose
+ * bytes may be anything. While a board was one house's it had no `ours`, and the functions took no party: a program from then is to be
+ * changed and compiled anew. */
 
 enum { CK_MOST_LOTS = 64, CK_HIGHEST_STAMP = 65535 };
+
+/* The house in whose name a call is made. No place is that of any other number. */
+enum { CK_OURS = 0, CK_PARTNER = 1 };
 
 /* A lot of the board. */
 typedef struct ck_lot {
@@ -315,9 +325,10 @@ typedef struct ck_lot {
     uint16_t stamp; /* how often a job was stored, 0 at loading */
 } ck_lot;
 
-/* The lots from `count` on are all zeros. */
+/* The lots in the order of their places: ours, then the partner's, and from `count` on all zeros. */
 typedef struct ck_board {
-    size_t count;
+    size_t ours;  /* how many of the lots are ours */
+    size_t count; /* how many there are */
     ck_lot lots[CK_MOST_LOTS];
 } ck_board;
 
@@ -334,23 +345,28 @@ typedef struct ck_board_answer {
     ck_told told;
 } ck_board_answer;
 
-/* A board of records, in their order: record i is at place i, with job 0 and stamp 0. Field by field they stand in eight columns, as
- * for ck_write_records, and there are as many as the shortest column has numbers.
+/* A board of two lists of records, each in its order: ours at the places from 0 on and, in the columns with a 2, the partner's at those
+ * behind them, all with job 0 and stamp 0. Field by field the records of a list stand in eight columns, as for ck_write_records, and there
+ * are as many as its shortest column has numbers: eight of NULL and 0 are no records, and a board with none of the partner's is ours alone.
  * Refusal: CK_TOO_MANY_LOTS, and the board handed back is the one of no lots. */
 ck_board_answer ck_board_load(const uint32_t *u, size_t u_count, const uint32_t *v, size_t v_count, const uint16_t *place,
                               size_t place_count, const uint16_t *low, size_t low_count, const uint16_t *high, size_t high_count,
                               const int32_t *duv, size_t duv_count, const uint8_t *steps, size_t steps_count,
-                              const uint8_t *class_index, size_t class_count);
+                              const uint8_t *class_index, size_t class_count, const uint32_t *u2, size_t u2_count, const uint32_t *v2,
+                              size_t v2_count, const uint16_t *place2, size_t place2_count, const uint16_t *low2, size_t low2_count,
+                              const uint16_t *high2, size_t high2_count, const int32_t *duv2, size_t duv2_count, const uint8_t *steps2,
+                              size_t steps2_count, const uint8_t *class_index2, size_t class2_count);
 
-/* The lot at a place. The board handed back is the one that was handed over.
+/* The lot at a place of the party's. The board handed back is the one that was handed over.
  * Refusal: CK_NO_SUCH_PLACE. */
-ck_board_answer ck_board_read(ck_board board, size_t place);
+ck_board_answer ck_board_read(ck_board board, uint8_t party, size_t place);
 
-/* Assigns the lot at a place to a job, any number: 0 takes the lot from its job. `stamp` is the lot's stamp as the caller saw it. Where
- * that is current the job is stored and the lot's stamp goes up by one; nothing else of the board changes, and no stamp is told.
+/* Assigns the lot at a place of the party's to a job, any number: 0 takes the lot from its job. `stamp` is the lot's stamp as the caller
+ * saw it. Where that is current the job is stored and the lot's stamp goes up by one; nothing else of the board changes, and no stamp is
+ * told.
  * Refusals, in this order: CK_NO_SUCH_PLACE, CK_STALE_STAMP, CK_LAST_STAMP; the board handed back is then the one that was handed
  * over. */
-ck_board_answer ck_board_assign(ck_board board, size_t place, uint16_t stamp, uint32_t job);
+ck_board_answer ck_board_assign(ck_board board, uint8_t party, size_t place, uint16_t stamp, uint32_t job);
 
 #ifdef __cplusplus
 }

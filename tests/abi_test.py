@@ -244,12 +244,12 @@ def self_test():
 
 def doctests():
     """The examples of the package's own documentation, by name. A public class is asked for its methods, since it is named by the package
-    and stands in a module of it, so that neither of the two is asked for them."""
+    and stands in a module of it, so that neither of the two is asked for them; the methods that `Party` has of `int` are Python's."""
     finder, classes = doctest.DocTestFinder(), [item for item in map(cradlekeel.__dict__.get, cradlekeel.__all__) if isinstance(item, type)]
     modules = cradlekeel, cradlekeel.readings, cradlekeel.records, cradlekeel.differences, cradlekeel.salvages, cradlekeel.spectra
     found = [test for module in modules for test in finder.find(module)]
     found += [test for item in classes for test in finder.find(item, f"cradlekeel.{item.__name__}", False, vars(cradlekeel))]
-    return {test.name: test for test in found}
+    return {test.name: test for test in found if "._member_type_" not in test.name}
 
 
 def run_doctests():

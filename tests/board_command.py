@@ -22,6 +22,7 @@ from cradlekeel import REASONS
 
 RECORDS = [(219300, 327100, 23156, 23152, 23158, -2325, 14, 2), (255910, 349510, 36176, 33592, 38760, 0, 0, 1),
            (4_294_967_295, 0, 65_535, 0, 1, -2_147_483_648, 255, 255)]
+THEIRS = [(233000, 341000, 28856, 28746, 29034, 1441, 6, 2), (228000, 332000, 26162, 25984, 26272, -3610, 6, 2)]
 LAST_STAMP, STALE_STAMP = 65_535, 18
 PLACE = "PLACE is {}, which is not a whole number; places are counted from 0, as in {}"
 
@@ -39,32 +40,40 @@ def file_in(folder, records=RECORDS, name="day.rec", length=record_files.WRITTEN
 # --- What is expected of commands -------------------------------------------------------------------------------------
 
 
-class Lots:
-    """A board of the second program, and its answers as the command prints them."""
+HOUSES = {"ours": board_table.OURS, "partner": board_table.PARTNER}
 
-    def __init__(self, records):
-        self.board, _ = board_table.load(records)
+
+class Lots:
+    """A board of the second program, and its answers as the command prints them; a command without a house is that of `house`."""
+
+    def __init__(self, ours, theirs=(), house="ours"):
+        self.board, _ = board_table.load(ours, list(theirs))
+        self.house = house
 
     def stamp(self, place):
         """The current stamp of a place, 0 where there is none."""
-        lot = board_table.read(self.board, place)[1].lot
-        return lot.stamp if lot else 0
+        return self.board[place].lot.stamp if place in self.board else 0
 
-    def read(self, place):
-        self.board, told = board_table.read(self.board, place)
+    def read(self, party, place):
+        self.board, told = board_table.read(self.board, party, place)
         return f"0 {place} {told.lot.stamp} {told.lot.job} {shown(told.lot.record)}" if told.lot else f"{told.refusal}"
 
-    def assign(self, place, stamp, job):
-        self.board, told = board_table.assign(self.board, place, stamp, job)
+    def assign(self, party, place, stamp, job):
+        self.board, told = board_table.assign(self.board, party, place, stamp, job)
         return f"{told.refusal} {told.stamp}" if told.refusal == STALE_STAMP else f"{told.refusal}"
 
-    def list(self):
-        return "\n".join([*map(self.read, range(len(self.board))), f"0 lots {len(self.board)}"])
+    def list(self, party):
+        places = sorted(place for place, (owner, _) in self.board.items() if owner == party)
+        return "\n".join([*(self.read(party, place) for place in places), f"0 lots {len(places)}"])
+
+    def answer(self, command):
+        """What is printed for a good command."""
+        words = command.split()
+        house, name, *numbers = words if words[0] in HOUSES else (self.house, *words)
+        return f"{getattr(self, name)(HOUSES[house], *map(int, numbers))}\n".encode()
 
     def answers(self, commands):
-        """What is printed for lines of good commands."""
-        made = ((name, map(int, numbers)) for name, *numbers in map(str.split, commands))
-        return "".join(f"{getattr(self, name)(*numbers)}\n" for name, numbers in made).encode()
+        return b"".join(map(self.answer, commands))
 
 
 def text_of(commands):
@@ -114,9 +123,9 @@ def check_boards(folder):
         expect(f"a board of {count} lots", board(path, text=text_of(commands)), Lots((22 * RECORDS)[:count]).answers(commands))
 
 
-def random_command(dice, lots):
-    """A command at a place of three lots or about them, with the stamp that is current there, one beside it, or any."""
-    place = dice.pick((0, 1, 2, 3, dice.below(70)))
+def random_command(dice, lots, count=3):
+    """A command at a place of so many lots or about them, with the stamp that is current there, one beside it, or any."""
+    place = dice.pick((*range(count + 1), dice.below(70)))
     stamp = (lots.stamp(place) + dice.pick((0, 0, 0, -1, 1))) % 65_536
     job = dice.pick((0, dice.below(9), dice.below(2**32)))
     assign = f"assign {place} {dice.pick((stamp, stamp, stamp, stamp, dice.below(65_536)))} {job}"
@@ -143,6 +152,145 @@ def check_last_stamp(folder):
     expect("every stamp", ran, Lots(RECORDS).answers(commands))
     last = [b"0 0 65535 65535 219300 327100 23156 23152 23158 -2325 14 2", b"19", b"18 65535", b"18 65535", b"0"]
     check("the last ones", ran.stdout.split(b"\n")[LAST_STAMP:LAST_STAMP + 5] == last, ran.stdout[-400:])
+
+
+# --- Two houses -------------------------------------------------------------------------------------------------------
+
+SHARED = ("read 0", "ours read 3", "partner read 3", "partner read 0", "partner assign 3 0 815", "ours assign 3 0 4711", "assign 3 1 4711",
+          "partner assign 0 0 816", "partner assign 3 0 816", "partner assign 4 0 816", "ours assign 0 0 4711", "read 5", "partner read 5",
+          "list", "partner list", "ours list")
+SHARED_PRINTED = b"""\
+0 0 0 0 219300 327100 23156 23152 23158 -2325 14 2
+17
+0 3 0 0 233000 341000 28856 28746 29034 1441 6 2
+17
+0
+17
+17
+17
+18 1
+0
+0
+17
+17
+0 0 1 4711 219300 327100 23156 23152 23158 -2325 14 2
+0 1 0 0 255910 349510 36176 33592 38760 0 0 1
+0 2 0 0 4294967295 0 65535 0 1 -2147483648 255 -
+0 lots 3
+0 3 1 815 233000 341000 28856 28746 29034 1441 6 2
+0 4 1 816 228000 332000 26162 25984 26272 -3610 6 2
+0 lots 2
+0 0 1 4711 219300 327100 23156 23152 23158 -2325 14 2
+0 1 0 0 255910 349510 36176 33592 38760 0 0 1
+0 2 0 0 4294967295 0 65535 0 1 -2147483648 255 -
+0 lots 3
+"""
+
+
+def files_of_two(folder, ours=RECORDS, theirs=THEIRS):
+    return file_in(folder, ours), file_in(folder, theirs, "theirs.rec")
+
+
+def check_houses(folder):
+    """Both houses on one board, written out; then with a file that is both, one from before, and houses that have no lots."""
+    paths = files_of_two(folder)
+    expect("two houses", board(*paths, text=text_of(SHARED)), SHARED_PRINTED)
+    found = Lots(RECORDS, THEIRS).answers(SHARED)
+    check("the list of lots expects the same", found == SHARED_PRINTED, found)
+    check("the files are only read", [path.read_bytes() for path in paths] == list(map(record_files.file_of, (RECORDS, THEIRS))), paths)
+    expect("one file for both", board(paths[0], paths[0], text=text_of(SHARED)), Lots(RECORDS, RECORDS).answers(SHARED))
+    earlier = file_in(folder, THEIRS, "earlier.rec", record_files.EARLIER)
+    expect("a partner's file from before", board(paths[0], earlier, text=text_of(SHARED)), SHARED_PRINTED)
+    for ours, theirs in ((RECORDS, ()), ((), THEIRS), ((), ())):
+        expect("a house without lots", board(*files_of_two(folder, ours, theirs), text=text_of(SHARED)), Lots(ours, theirs).answers(SHARED))
+    expect("no file of the partner's", board(file_in(folder), text=text_of(SHARED)), Lots(RECORDS).answers(SHARED))
+    lines, commands = b" ours\tread  0 \r\n\tpartner list\r\npartner assign 3 0000 7", ("read 0", "partner list", "partner assign 3 0 7")
+    expect("spaces", board(*files_of_two(folder), text=lines), Lots(RECORDS, THEIRS).answers(commands))
+
+
+def check_limits_of_two(folder):
+    """Boards of 64 lots, divided in several ways, with every place tried by both houses; and 65, which are refused."""
+    commands = [f"{house} {command}" for place in range(66) for house in HOUSES
+                for command in (f"read {place}", f"assign {place} 1 7", f"assign {place} 0 {place + 1}")]
+    commands += ["list", "partner list"]
+    for ours, theirs in ((64, 0), (0, 64), (63, 1), (1, 63), (40, 24), (3, 2)):
+        lists = (22 * RECORDS)[:ours], (32 * THEIRS)[:theirs]
+        expect(f"{ours} and {theirs} lots", board(*files_of_two(folder, *lists), text=text_of(commands)), Lots(*lists).answers(commands))
+    for ours, theirs in ((64, 1), (1, 64), (65, 0), (0, 65), (40, 25), (3200, 3200)):
+        paths = files_of_two(folder, ours * RECORDS[:1], theirs * THEIRS[:1])
+        said = f"refusal 16: {REASONS[16]}: they have {ours} and {theirs}; docs/BOARD.md tells how to make several files of one"
+        expect(f"{ours} and {theirs} lots", board(*paths, text=b"list\n"), b"", f"cradlekeel: {paths[0]} and {paths[1]}: {said}\n".encode(), 1)
+
+
+OWNED = {"ours": "ours", "partner": "the partner's"}
+
+
+def check_party(folder):
+    """With --party a run is one house's, and no line may name a house."""
+    paths = files_of_two(folder)
+    commands = ("list", "read 0", "read 2", "read 3", "read 4", "read 5", "assign 0 0 1", "assign 3 0 2", "assign 0 0 3", "assign 3 0 4", "list")
+    for house in HOUSES:
+        expected = Lots(RECORDS, THEIRS, house).answers(commands)
+        for words in (["--party", house, *paths], [*paths, f"--party={house}"]):
+            expect(f"the view of {house}", board(*words, text=text_of(commands)), expected)
+        expect(f"{house} without a second file", board("--party", house, paths[0], text=b"list\n"), Lots(RECORDS, (), house).answer("list"))
+        for named in HOUSES:
+            said = f"line 1: '{named}' names a house, and with --party {house} every command is {OWNED[house]}: leave the word out"
+            for line in (f"{named} read 0", f"{named} list", named, f"{named} {named}"):
+                ran = board("--party", house, *paths, text=f"{line}\nlist\n".encode())
+                expect(line, ran, b"8\n" + Lots(RECORDS, THEIRS, house).answer("list"), f"cradlekeel: {said}\n".encode(), 1)
+
+
+def check_isolation(folder):
+    """What a house sees is the same whatever lots the other has, so long as the partner's places stay where they are, and whatever the
+    other's commands between its own are."""
+    own = 3 * ["read 0", "read 3", "assign 0 0 1", "assign 3 0 2", "assign 4 1 3", "read 9"]
+    for house, other, lists in (("ours", "partner", ([], THEIRS, 61 * THEIRS[:1])), ("partner", "ours", (RECORDS, 3 * THEIRS[:1]))):
+        expected = Lots(RECORDS, THEIRS, house).answers([*own, "list"])
+        check("a stale stamp is told", b"\n18 1\n" in expected, expected)
+        for records in lists:
+            paths = files_of_two(folder, *((RECORDS, records) if house == "ours" else (records, THEIRS)))
+            expect(f"what {house} sees", board("--party", house, *paths, text=text_of([*own, "list"])), expected)
+            both = [line for k, each in enumerate(own) for line in (f"{other} assign {k % 6} 0 {k}", f"{house} {each}")]
+            lines = board(*paths, text=text_of([*both, f"{house} list"])).stdout.splitlines(True)
+            found = b"".join([*lines[1:2 * len(own):2], *lines[2 * len(own):]])
+            check(f"what {house} sees between the other's commands", found == expected, found)
+
+
+BAD_HOUSES = {  # lines, each with what is said of it
+    "ours": "after 'ours' a command is to be named: there are read, assign, list, help, as in ours read 0",
+    "partner": "after 'partner' a command is to be named: there are read, assign, list, help, as in partner read 0",
+    "partner ours read 0": "'ours' is not a command: there are read, assign, list, help",
+    "theirs read 0": "'theirs' is not a command: there are read, assign, list, help",
+    "Partner read 3": "'Partner' is not a command: there are read, assign, list, help",
+    "read partner 3": "read takes 1 word after it and here has 2: read PLACE, as in read 0",
+    "partner 3": "'3' is not a command: there are read, assign, list, help",
+    "partner read": "read takes 1 word after it and here has none: read PLACE, as in read 0",
+    "partner assign 3 65536 1": "STAMP is '65536', which is not a whole number from 0 to 65535, as in assign 0 0 4711",
+    "partner # a comment": "'#' is not a command: there are read, assign, list, help",
+}
+
+
+def check_bad_houses(folder):
+    paths = files_of_two(folder)
+    for line, fault in BAD_HOUSES.items():
+        ran = board(*paths, text=f"{line}\npartner list\n".encode())
+        expect(line, ran, b"8\n" + Lots(RECORDS, THEIRS).answer("partner list"), f"cradlekeel: line 1: {fault}\n".encode(), 1)
+
+
+def check_histories_of_two(folder):
+    """Random commands of both houses, all that is printed compared."""
+    paths = files_of_two(folder)
+    for seed in range(2):
+        dice, lots, commands, answers = Dice(f"two houses {seed}"), Lots(RECORDS, THEIRS), [], b""
+        for _ in range(3000):
+            commands.append(dice.pick(("", "ours ", "partner ", "partner ")) + random_command(dice, lots, 5))
+            answers += lots.answer(commands[-1])
+        check("they are stored and refused", min(map(lots.stamp, range(5))) > 20 and b"\n18 " in answers and b"\n17\n" in answers, lots.board)
+        expect(f"history {seed} of two houses", board(*paths, text=text_of(commands)), answers)
+
+
+# --- Lines ------------------------------------------------------------------------------------------------------------
 
 
 def check_lines(folder):
@@ -226,6 +374,10 @@ def check_help_line(folder):
     check("help", len(lines) > 4 and not ran.stderr and ran.returncode == 0 and lines[-1].encode() + b"\n" == Lots(RECORDS).answers(["read 0"]), ran)
     for name in ("read PLACE ", "assign PLACE STAMP JOB ", "list ", "help "):
         check(f"help has {name}", any(line.startswith(name) for line in lines), ran)
+    check("help tells of houses", "partner read 3" in ran.stdout.decode() and "--party" in ran.stdout.decode(), ran)
+    for words in (("partner help",), ("ours help",)):
+        expect(f"{words[0]} is the same", board(file_in(folder), text=text_of(words)), b"".join(ran.stdout.splitlines(True)[:-1]))
+    expect("help of one house is the same", board("--party", "ours", file_in(folder), text=b"help"), b"".join(ran.stdout.splitlines(True)[:-1]))
     told = board("--help").stdout.decode().splitlines()
     for number in (8, 17, 18, 19):
         check(f"help says {number} as --help does", [f"  {line}" in told for line in lines if line.startswith(f"{number} ")] == [True], ran)
@@ -252,11 +404,14 @@ def check_files(folder):
     for name in ("65.rec", "3200.rec", "3600.rec"):
         said[name] += f": it has {name.removesuffix('.rec')}; docs/BOARD.md tells how to make several files of it"
     said |= {"missing.rec": "No such file or directory", ".": "Is a directory", "long.rec": "over 1,310,708 bytes, longer than any record file"}
+    file_in(folder)
     for name, why in said.items():
-        with commands.open("rb") as given:
-            ran = subprocess.run([COMMAND, "board", name], stdin=given, capture_output=True, timeout=PATIENCE, cwd=folder)
-            expect(name, ran, b"", f"cradlekeel: {name}: {why}\n".encode(), 1)
-            check(f"{name}: no command is read", os.lseek(given.fileno(), 0, os.SEEK_CUR) == 0, "something")
+        two = [[name, "day.rec"], ["day.rec", name], [name, "missing.rec"]] if name not in ("65.rec", "3200.rec", "3600.rec") else []
+        for names in ([name], *two):
+            with commands.open("rb") as given:
+                ran = subprocess.run([COMMAND, "board", *names], stdin=given, capture_output=True, timeout=PATIENCE, cwd=folder)
+                expect(f"{names}", ran, b"", f"cradlekeel: {name}: {why}\n".encode(), 1)
+                check(f"{names}: no command is read", os.lseek(given.fileno(), 0, os.SEEK_CUR) == 0, "something")
 
 
 # --- Line by line -----------------------------------------------------------------------------------------------------
@@ -295,32 +450,57 @@ def check_writes(folder):
         check(f"{text[:9]}: writes", least <= ran.returncode <= most, ran)
 
 
-def check_terminal(folder):
-    """On a terminal a refusal, and that a job is stored, is said in words after its number, and an unknown word is told how to end; without
-    one they are not."""
-    path, lots = file_in(folder), Lots(RECORDS)
+def typed(words, text):
+    """What stands on a terminal where a board is run there and this is typed, and the exit status."""
     own, theirs = pty.openpty()
     attributes = termios.tcgetattr(theirs)
     attributes[3] &= ~termios.ECHO
     attributes[1] &= ~termios.OPOST
     termios.tcsetattr(theirs, termios.TCSANOW, attributes)
-    with subprocess.Popen([COMMAND, "board", path], stdin=theirs, stdout=theirs, stderr=theirs) as process:
+    with subprocess.Popen([COMMAND, "board", *words], stdin=theirs, stdout=theirs, stderr=theirs) as process:
         os.close(theirs)
-        os.write(own, b"assign 0 0 5\nassign 0 0 6\nassign 0 1 0\nread 9\nread\nquit\n\x04")
+        os.write(own, text + b"\x04")
         found = b""
         try:
             while block := os.read(own, 4096):
                 found += block
         except OSError:  # the other side is closed
             pass
-        check("it ends at Ctrl-D", process.wait(PATIENCE) == 1, process.returncode)
+        process.wait(PATIENCE)
     os.close(own)
+    return found.decode(), process.returncode
+
+
+def check_terminal(folder):
+    """On a terminal a refusal, and that a job is stored, is said in words after its number, and an unknown word is told how to end; without
+    one they are not."""
+    path, lots = file_in(folder), Lots(RECORDS)
+    found, status = typed([path], b"assign 0 0 5\nassign 0 0 6\nassign 0 1 0\nread 9\nread\nquit\n")
+    check("it ends at Ctrl-D", status == 1, status)
     answers = (("", f"{path}: 3 lots; help has the commands, and Ctrl-D ends"), ("0\n", "stored; the lot's stamp is now 1"),
                ("18 1\n", f"refusal 18: {REASONS[18]}"), ("0\n", "stored; the lot's stamp is now 2"), ("17\n", f"refusal 17: {REASONS[17]}"),
                ("8\n", f"line 5: {BAD_LINES['read']}"), ("8\n", f"line 6: {BAD_LINES['quit']}; Ctrl-D ends"))
-    check("what stands there", found.decode() == "".join(f"{answer}cradlekeel: {said}\n" for answer, said in answers), found)
+    check("what stands there", found == "".join(f"{answer}cradlekeel: {said}\n" for answer, said in answers), found)
     commands = ["assign 0 1 5", "read 9", "assign 0 0 5"]
     expect("a pipe has numbers only", board(path, text=text_of(commands)), lots.answers(commands))
+
+
+def check_greetings(folder):
+    """A terminal is told how many lots each house has; a run of one house only of its own. What is told of its commands is as ever."""
+    ours, theirs = files_of_two(folder)
+    alone, none = file_in(folder, RECORDS[:1], "one.rec"), file_in(folder, [], "none.rec")
+    for words, lots in (
+            ([alone], f"{alone}: 1 lot"), ([ours, theirs], f"{ours}: 3 lots, ours, from place 0; {theirs}: 2 lots, the partner's, from place 3"),
+            ([alone, none], f"{alone}: 1 lot, ours, from place 0; {none}: 0 lots, the partner's"),
+            (["--party", "ours", ours, theirs], f"{ours}: 3 lots, ours, from place 0"),
+            (["--party", "partner", ours, theirs], f"{theirs}: 2 lots, the partner's, from place 3"),
+            (["--party", "partner", ours], "no file: 0 lots, the partner's")):
+        found = typed(words, b"")
+        check(f"the greeting of {words}", found == (f"cradlekeel: {lots}; help has the commands, and Ctrl-D ends\n", 0), found)
+    found, status = typed([ours, theirs], b"partner read 0\npartner assign 3 0 5\nours\n")
+    said = (f"17\ncradlekeel: refusal 17: {REASONS[17]}\n0\ncradlekeel: stored; the lot's stamp is now 1\n"
+            f"8\ncradlekeel: line 3: {BAD_HOUSES['ours']}; Ctrl-D ends\n")
+    check("what is told of commands", found.partition("\n")[2] == said and status == 1, found)
 
 
 # --- Input and output that fail ---------------------------------------------------------------------------------------
@@ -380,8 +560,13 @@ def check_stopped(folder):
 
 # --- Usage and builds -------------------------------------------------------------------------------------------------
 
-WRONG_USAGE = {(): "no file is named", ("a", "b"): "more than one file is named", ("",): "no file is named",
+WRONG_USAGE = {(): "no file is named", ("a", "b", "c"): "more than two files are named", ("",): "no file is named",
+               ("", ""): "no file is named", ("a", ""): "the name of a file is empty", ("", "a"): "the name of a file is empty",
                ("-",): "'-' is not the name of a file: standard input has the commands",
+               ("a", "-"): "'-' is not the name of a file: standard input has the commands",
+               ("--party", "theirs", "a"): "--party: 'theirs' is neither ours nor partner",
+               ("--party=", "a"): "--party: '' is neither ours nor partner",
+               ("--party", "ours"): "no file is named", ("a", "--party"): "option --party requires argument",
                ("--kelvin", "a"): "option --kelvin not recognized", ("-k", "a"): "option -k not recognized"}
 
 
@@ -389,8 +574,10 @@ def check_usage(folder):
     for word in ("-h", "--help"):
         ran = board("a", word, cwd=folder)
         lines = ran.stdout.decode().splitlines()
-        check(f"board {word}", lines[0] == "usage: cradlekeel board FILE < COMMANDS" and not ran.stderr and not ran.returncode, ran)
-        check(f"board {word}: options and statuses", "  -h, --help    this text" in lines and "Exit status: 0" in ran.stdout.decode(), ran)
+        usage = "usage: cradlekeel board [--party ours|partner] OURS [THEIRS] < COMMANDS"
+        check(f"board {word}", lines[0] == usage and not ran.stderr and not ran.returncode, ran)
+        options = {"  --party HOUSE    ours or partner: every command is made in the name of this house", "  -h, --help       this text"}
+        check(f"board {word}: options and statuses", options <= set(lines) and "Exit status: 0" in ran.stdout.decode(), ran)
         check(f"board {word}: lines that a terminal shows", max(map(len, lines)) <= 132, max(map(len, lines)))
         for words in ("lives as long as the command", "Two runs are two boards"):
             check(f"board {word}: {words}", words in ran.stdout.decode(), ran)
@@ -418,5 +605,6 @@ def check_copy(folder):
     copy.check_run("a second run builds nothing", 0, ["board", path], text_of(BOTH), PRINTED)
 
 
-PARTS = (check_commands, check_boards, check_histories, check_last_stamp, check_lines, check_bad_lines, check_help_line, check_files, check_talk,
-         check_writes, check_terminal, check_input, check_output, check_stopped, check_usage, check_missing, check_copy)
+PARTS = (check_commands, check_boards, check_histories, check_last_stamp, check_houses, check_limits_of_two, check_party, check_isolation,
+         check_bad_houses, check_histories_of_two, check_lines, check_bad_lines, check_help_line, check_files, check_talk, check_writes,
+         check_terminal, check_greetings, check_input, check_output, check_stopped, check_usage, check_missing, check_copy)

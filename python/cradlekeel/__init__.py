@@ -38,11 +38,13 @@ is what the library answers now.
 (1, [], 7, True)
 
 A `Board` has up to 64 records as lots that dispatchers assign to jobs. It is a value: each call hands a board back, and with it what the
-call is told. Whoever assigns a lot names the stamp that he saw; if it is not the current one, nothing is stored and he is told.
+call is told. Whoever assigns a lot names the stamp that he saw; if it is not the current one, nothing is stored and he is told. A call is
+made in the name of a `Party`: a partner house may have lots there too, and each house reaches its own places only.
 
+>>> ours = cradlekeel.Party.OURS
 >>> board, told = cradlekeel.Board.load([record])
->>> board, told = board.assign(place=0, stamp=0, job=4711)
->>> board, told = board.assign(place=0, stamp=0, job=4712)
+>>> board, told = board.assign(ours, place=0, stamp=0, job=4711)
+>>> board, told = board.assign(ours, place=0, stamp=0, job=4712)
 >>> told.refusal, told.stamp, board.lots[0].job
 (18, 1, 4711)
 
@@ -52,7 +54,7 @@ and what is no whole number there `TypeError`. The library writes to nothing tha
 """
 
 from ._library import LibraryMissing
-from .boards import Board, Lot, Told
+from .boards import Board, Lot, Party, Told
 from .differences import ONLY_FIRST, ONLY_SECOND, Difference, FileRefusal, compare_files
 from .readings import EDGES, REASONS, STEPS, Answer, Refusal, read_micro, read_samples, read_uv, read_uv_prime, read_xy, read_xyz
 from .records import MOST_RECORDS, MOST_WRITTEN, Record, check_file, read_records, record_at, to_bytes, write_records
@@ -60,9 +62,9 @@ from .salvages import Salvaged, salvage
 from .spectra import BadSpectrum, BelowZero, cie_1931, read_spectrum
 
 __all__ = ["EDGES", "MOST_RECORDS", "MOST_WRITTEN", "ONLY_FIRST", "ONLY_SECOND", "REASONS", "STEPS", "Answer", "BadSpectrum", "BelowZero",
-           "Board", "Difference", "FileRefusal", "LibraryMissing", "Lot", "Record", "Refusal", "Salvaged", "Told", "check_file", "cie_1931",
-           "compare_files", "read_micro", "read_records", "read_samples", "read_spectrum", "read_uv", "read_uv_prime", "read_xy", "read_xyz",
-           "record_at", "salvage", "to_bytes", "write_records"]
+           "Board", "Difference", "FileRefusal", "LibraryMissing", "Lot", "Party", "Record", "Refusal", "Salvaged", "Told", "check_file",
+           "cie_1931", "compare_files", "read_micro", "read_records", "read_samples", "read_spectrum", "read_uv", "read_uv_prime", "read_xy",
+           "read_xyz", "record_at", "salvage", "to_bytes", "write_records"]
 
-for _public in (Answer, BadSpectrum, BelowZero, Board, Difference, FileRefusal, LibraryMissing, Lot, Record, Refusal, Salvaged, Told):
+for _public in (Answer, BadSpectrum, BelowZero, Board, Difference, FileRefusal, LibraryMissing, Lot, Party, Record, Refusal, Salvaged, Told):
     _public.__module__ = __name__  # a traceback names them as their users do, as in cradlekeel.Refusal

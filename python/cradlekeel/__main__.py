@@ -9,7 +9,7 @@ import traceback
 from .commands import ANSWERED, FAILED, NOT_RUN, BadFile, Failed, HelpAsked, WrongUsage, say, write_out
 
 COMMANDS = {  # a module of cradlekeel.commands for each
-    "board": "a board of the lots in a record file, run by commands",
+    "board": "a board of the lots in one or two record files, run by commands",
     "compare": "the differences of two record files, one to a line",
     "salvage": "what can be kept of a broken record file, in a new one",
     "save": "the answers to lines, kept in a record file too",

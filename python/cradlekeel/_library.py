@@ -69,7 +69,7 @@ class StoredLot(ctypes.Structure):
 class StoredBoard(ctypes.Structure):
     """`ck_board` of include/cradlekeel.h."""
 
-    _fields_ = [("count", ctypes.c_size_t), ("lots", StoredLot * 64)]
+    _fields_ = [("ours", ctypes.c_size_t), ("count", ctypes.c_size_t), ("lots", StoredLot * 64)]
 
 
 class ToldByBoard(ctypes.Structure):
@@ -101,8 +101,8 @@ _FUNCTIONS = {
     "ck_record_at": ([*_FILE, ctypes.c_size_t], StoredRecord), "ck_record_of": ([ctypes.c_uint32, ctypes.c_uint32, WholeAnswer], Kept),
     "ck_compare_files": ([*_FILE, *_FILE, ctypes.POINTER(ctypes.c_int64), ctypes.c_size_t], Compared),
     "ck_salvage": ([*_FILE, ctypes.c_size_t, *_LIST, *_TARGET, ctypes.POINTER(ctypes.c_uint64), ctypes.c_size_t], SalvageCounts),
-    "ck_board_load": (_COLUMNS, BoardAnswer), "ck_board_read": ([StoredBoard, ctypes.c_size_t], BoardAnswer),
-    "ck_board_assign": ([StoredBoard, ctypes.c_size_t, ctypes.c_uint16, ctypes.c_uint32], BoardAnswer),
+    "ck_board_load": (2 * _COLUMNS, BoardAnswer), "ck_board_read": ([StoredBoard, ctypes.c_uint8, ctypes.c_size_t], BoardAnswer),
+    "ck_board_assign": ([StoredBoard, ctypes.c_uint8, ctypes.c_size_t, ctypes.c_uint16, ctypes.c_uint32], BoardAnswer),
 }
 
 
@@ -124,10 +124,13 @@ def _make_command():
 @functools.lru_cache(maxsize=None)
 def c_function(name):
     """The C function `name`, once it knows what it takes and returns. None is taken from a library whose records have another length: it
-    has another limit of refusal 5 too, and would misread records without a word."""
+    has another limit of refusal 5 too, and would misread records without a word. Nor is one for boards taken from a library whose boards
+    are one house's."""
     function = _typed(name)
     if (length := _record_length()) != RECORD_BYTES:
         raise _too_old(f"writes records of {length} bytes")
+    if name.startswith("ck_board_") and not _has_two_houses():
+        raise _too_old("has boards of one house")
     return function
 
 
@@ -146,6 +149,14 @@ def _record_length():
     target = (ctypes.c_uint8 * 8)()
     _typed("ck_write_records")(*len(StoredRecord._fields_) * (None, 0), target, len(target))
     return target[0]
+
+
+@functools.lru_cache(maxsize=None)
+def _has_two_houses():
+    """Whether the library loads the partner's records too: it does where one such record, of zeros, makes a board of one lot."""
+    none, one = ([part for _, kind in StoredRecord._fields_ for part in ((kind * count)(), count)] for count in (0, 1))
+    board = _typed("ck_board_load")(*none, *one).board
+    return (board.ours, board.count) == (0, 1)
 
 
 def _too_old(what):

@@ -205,20 +205,20 @@ def _as_file(called, file):
     return file, len(file)
 
 
-def columns_of(records):
-    """The fields of all records as C takes them, a column for each with its count."""
+def columns_of(records, name="records"):
+    """The fields of all records as C takes them, a column for each with its count; an error calls the list by its name."""
     for i, record in enumerate(records):
         if not isinstance(record, Record):
-            raise TypeError(f"records[{i}] is {record!r}, which is not a Record")
+            raise TypeError(f"{name}[{i}] is {record!r}, which is not a Record")
     columns = zip(*records) if records else len(_FIELDS) * [()]
-    return [part for (field, kind), numbers in zip(_FIELDS, columns) for part in (_column(field, kind, numbers), len(numbers))]
+    return [part for (field, kind), numbers in zip(_FIELDS, columns) for part in (_column(name, field, kind, numbers), len(numbers))]
 
 
-def _column(field, kind, numbers):
+def _column(name, field, kind, numbers):
     try:
         stored = array(kind._type_, numbers)
     except (OverflowError, TypeError):
         for i, number in enumerate(numbers):
-            whole(f"records[{i}].{field}", number, kind)  # raises what names the first at fault
+            whole(f"{name}[{i}].{field}", number, kind)  # raises what names the first at fault
         raise
     return (kind * len(numbers)).from_buffer(stored)

@@ -19,9 +19,11 @@ typedef struct columns {
 
 static region column_regions[COLUMNS];
 
-static void make_column_regions(void) {
-    for (int k = 0; k < COLUMNS; k++) column_regions[k] = make_region(MOST_NUMBERS * WIDTHS[k]);
+static void make_each_region(region regions[COLUMNS]) {
+    for (int k = 0; k < COLUMNS; k++) regions[k] = make_region(MOST_NUMBERS * WIDTHS[k]);
 }
+
+static void make_column_regions(void) { make_each_region(column_regions); }
 
 static void put_number(void *at, size_t width, size_t i, uint32_t number) {
     if (width == 4) ((uint32_t *)at)[i] = number;
@@ -29,13 +31,16 @@ static void put_number(void *at, size_t width, size_t i, uint32_t number) {
     else ((uint8_t *)at)[i] = (uint8_t)number;
 }
 
-/* Lends numbers as a column, in place of what it was. */
-static void lend_column(columns *c, size_t k, const uint32_t *numbers, size_t count) {
+/* Lends numbers as a column in one of some regions, in place of what was there. */
+static void lend_in(const region regions[COLUMNS], columns *c, size_t k, const uint32_t *numbers, size_t count) {
     static uint32_t stored[MOST_NUMBERS];
     for (size_t i = 0; i < count; i++) put_number(stored, WIDTHS[k], i, numbers[i]);
-    c->at[k] = lend_bytes(&column_regions[k], stored, count * WIDTHS[k]);
+    c->at[k] = lend_bytes(&regions[k], stored, count * WIDTHS[k]);
     c->counts[k] = count;
 }
+
+/* Lends numbers as a column, in place of what it was. */
+static void lend_column(columns *c, size_t k, const uint32_t *numbers, size_t count) { lend_in(column_regions, c, k, numbers, count); }
 
 /* `column u|v|p|l|h|d|s|c NUMBERS..`, the words after the first: the column is replaced; how many numbers it has is the answer shown. */
 static void hold_column(columns *c, char *shown, const char *line) {

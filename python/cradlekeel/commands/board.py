@@ -1,20 +1,25 @@
-"""usage: cradlekeel board FILE < COMMANDS
+"""usage: cradlekeel board [--party ours|partner] OURS [THEIRS] < COMMANDS
 
 Loads a board from a record file, as cradlekeel save keeps them: record 0 at place 0 and so on, each lot with stamp 0 and job 0,
-which is none. A reading that was refused has no record and so no place. Then runs the commands of standard input, one to a line,
-and answers each by a line that begins with the number of its refusal, 0 for none:
+which is none. A reading that was refused has no record and so no place. THEIRS is a partner house's file, whose lots have the
+places behind ours. Then runs the commands of standard input, one to a line, and answers each by a line that begins with the number
+of its refusal, 0 for none:
 
   read PLACE                0 PLACE STAMP JOB u v place low high duv steps class
   assign PLACE STAMP JOB    0
-  list                      a line for each lot as read has it, and then 0 lots COUNT
+  list                      a line for each lot of the house as read has it, and then 0 lots COUNT
   help                      these commands, in several lines
+
+A command is made in the name of our house, or of the one that stands before it, as in partner read 3 or ours list. A house reads,
+assigns and lists its own lots only: a place of the other is to it as one without a lot, 17. With --party all commands are made in
+the name of that house, and a line that names one is not understood: so the answers are those of one house, for it to see.
 
 To assign a lot, name the stamp that you saw with it. It goes up by one each time a job is stored, so that nothing which was stored
 since is overwritten. The last eight numbers of a lot are its record, as cradlekeel show prints it; the place among them is the one
 on the blackbody locus. A refused command leaves the board as it was. Its answer is the number alone, but for 18:
 
   8           the line is not understood; a message on standard error has its number and says what would be right
-  17          the board has no lot at that place
+  17          the house has no lot at that place
   18 STAMP    the lot's current stamp is this one, not the one named: read the lot again, and then decide
   19          the stamp named is current and is 65535, the last: nothing more is stored there until the board is loaded anew
 
@@ -26,23 +31,27 @@ byte order mark before the first is skipped.
 All lines that one read of standard input brings are answered before the next read, so a script that writes a line and waits gets
 its answer at once. Where standard input is a terminal, a refusal is said in words too, and so is the stamp after a job is stored.
 
-The board lives as long as the command. FILE is only read, and nothing that is assigned is stored, there or anywhere else: this is
-for trying a board, and for scripts that keep the command running. Two runs are two boards that know nothing of each other; to share
-a board, all commands go to one run. docs/BOARD.md shows how, and has an example with two dispatchers.
+The board lives as long as the command. The files are only read, and nothing that is assigned is stored, there or anywhere else:
+this is for trying a board, and for scripts that keep the command running. Two runs are two boards that know nothing of each other;
+to share a board, all commands go to one run, those of both houses too. docs/BOARD.md shows how, and has an example with two
+dispatchers and one with two houses.
 
-  -h, --help    this text
+  --party HOUSE    ours or partner: every command is made in the name of this house
+  -h, --help       this text
 
 Examples:
   cradlekeel board monday.rec                                       (type commands; Ctrl-D ends)
   printf 'assign 0 0 4711\\nlist\\n' | cradlekeel board monday.rec
+  printf 'ours list\\npartner list\\n' | cradlekeel board monday.rec partner.rec
+  echo list | cradlekeel board --party partner monday.rec partner.rec                        (what the partner's house sees)
   echo list | cradlekeel board monday.rec | awk '$2 != "lots" && $12 == 2 { print $2 }'      (the places of class 2)
   cradlekeel show --kelvin monday.rec | awk '{ print NR - 1, $0 }'                           (each place with its temperature)
 
-FILE has at most 64 records, of 20 bytes or, from before, of 18; more are refused with 16, and docs/BOARD.md tells how to make
-several files of one. The first run of bin/cradlekeel board proves and builds the library (make lib, one to two minutes); later ones
-start at once.
+The files have at most 64 records together, of 20 bytes or, from before, of 18; more are refused with 16, and docs/BOARD.md tells
+how to make several files of one. THEIRS may be the file that OURS is. The first run of bin/cradlekeel board proves and builds the
+library (make lib, one to two minutes); later ones start at once.
 
-Exit status: 0 every line was understood, a refusal being an answer; 1 a line was not understood, FILE could not be loaded,
+Exit status: 0 every line was understood, a refusal being an answer; 1 a line was not understood, a file could not be loaded,
 standard input not be read or standard output not be written, and a message on standard error says which; 2 wrong usage, or the
 library is missing; 141 the reader of the answers went away, as `head` does.
 """
@@ -51,24 +60,27 @@ import codecs
 import os
 import re
 
-from .. import Board, Refusal
-from . import ANSWERED, BLOCK, FAILED, BadFile, Failed, WrongUsage, options_of, say, shown, write_out
+from .. import Board, Party, Refusal
+from . import ANSWERED, BLOCK, FAILED, BadFile, Failed, WrongUsage, counted, options_of, say, shown, write_out
 from .show import line_of, records_of
 
 LARGEST = {"PLACE": 2**64 - 1, "STAMP": 2**16 - 1, "JOB": 2**32 - 1}  # that the library takes
 TAKEN = {"read": ("PLACE",), "assign": ("PLACE", "STAMP", "JOB"), "list": (), "help": ()}  # by each command
 EXAMPLES = {"read": "read 0", "assign": "assign 0 0 4711"}
+HOUSES = {"ours": Party.OURS, "partner": Party.PARTNER}  # by the words that name them in a line and after --party
+OWNED = {"ours": "ours", "partner": "the partner's"}
 NOT_UNDERSTOOD, STALE_STAMP = 8, 18
 LONGEST_LINE = 1000  # bytes, without a byte order mark; a comment may be longer
 
 HELP = """\
 read PLACE                the lot at a place: 0 PLACE STAMP JOB u v place low high duv steps class
 assign PLACE STAMP JOB    gives the lot to a job, where the stamp is the lot's current one: 0
-list                      a line for each lot as read has it, and then: 0 lots COUNT
+list                      a line for each lot of the house as read has it, and then: 0 lots COUNT
 help                      these lines
+A command is made in the name of our house, or of the one named before it, as in partner read 3, unless --party names one for all.
 A refused command leaves the board as it was. Its answer is the number alone, but for 18:
 8           the line is not understood; a message on standard error has its number and says what would be right
-17          the board has no lot at that place
+17          the house has no lot at that place
 18 STAMP    the lot's current stamp is this one, not the one named: read the lot again, and then decide
 19          the stamp named is current and is 65535, the last: nothing more is stored there until the board is loaded anew
 The end of input, Ctrl-D on a terminal, ends the board, and nothing of it is stored.
@@ -84,35 +96,58 @@ class NoSuchCommand(NotUnderstood):
 
 
 def run(words):
-    """Loads the file that the words name and runs the commands of standard input."""
-    _, names = options_of(words, [])
-    if len(names) > 1:
-        raise WrongUsage("more than one file is named")
-    if not any(names):
-        raise WrongUsage("no file is named")
-    (name,) = names
-    if name == "-":
-        raise WrongUsage("'-' is not the name of a file: standard input has the commands")
-    board, is_typed = load(name), os.isatty(0)
+    """Loads the files that the words name and runs the commands of standard input."""
+    options, names = options_of(words, ["party="])
+    house = options.get("--party")
+    check_usage(house, names)
+    board, is_typed = load(names), os.isatty(0)
     if is_typed:
-        say(f"{name}: {len(board)} lot{'s' if len(board) != 1 else ''}; help has the commands, and Ctrl-D ends")
-    return Session(board, is_typed).run()
+        say(f"{greeting(board, house, names)}; help has the commands, and Ctrl-D ends")
+    return Session(board, house, is_typed).run()
 
 
-def load(name):
-    """The board of a file."""
-    records = records_of(name)
-    board, told = Board.load(records)
+def check_usage(house, names):
+    if house not in (None, *HOUSES):
+        raise WrongUsage(f"--party: {shown(house)} is neither {' nor '.join(HOUSES)}")
+    if len(names) > len(HOUSES):
+        raise WrongUsage("more than two files are named")
+    if not all(names) or not names:
+        raise WrongUsage("the name of a file is empty" if any(names) else "no file is named")
+    if "-" in names:
+        raise WrongUsage("'-' is not the name of a file: standard input has the commands")
+
+
+def load(names):
+    """The board of our file and, where it is named, the partner's."""
+    lists = list(map(records_of, names))  # the first is at fault before the second is looked at
+    board, told = Board.load(*lists)
     if told.refusal:
-        raise BadFile(f"{name}: {Refusal(told.refusal)}: it has {len(records)}; docs/BOARD.md tells how to make several files of it")
+        counts = " and ".join(str(len(records)) for records in lists)
+        has, of = (f"it has {counts}", "it") if len(lists) == 1 else (f"they have {counts}", "one")
+        raise BadFile(f"{' and '.join(names)}: {Refusal(told.refusal)}: {has}; docs/BOARD.md tells how to make several files of {of}")
     return board
 
 
-class Session:
-    """A board, and the answers to its commands that are not written yet."""
+def greeting(board, house, names):
+    """How many lots there are: those of one house where it alone makes commands, and otherwise of each that has a file."""
+    if house is None and len(names) == 1:
+        return f"{names[0]}: {counted(len(board), 'lot')}"
+    files = dict(zip(HOUSES, names))
+    return "; ".join(lots_of_house(board, each, files.get(each, "no file")) for each in ([house] if house else HOUSES))
 
-    def __init__(self, board, is_typed):
-        self.board, self.is_typed, self.status, self.held, self.length = board, is_typed, ANSWERED, [], 0
+
+def lots_of_house(board, house, name):
+    """How many lots a house has, whose they are, and where they begin."""
+    places = board.places_of(HOUSES[house])
+    begin = f", from place {places.start}" if places else ""
+    return f"{name}: {counted(len(places), 'lot')}, {OWNED[house]}{begin}"
+
+
+class Session:
+    """A board, the house in whose name all commands are made, None where a line may name it, and the answers that are not written yet."""
+
+    def __init__(self, board, house, is_typed):
+        self.board, self.house, self.is_typed, self.status, self.held, self.length = board, house, is_typed, ANSWERED, [], 0
 
     def run(self):
         """Answers standard input to its end and returns the exit status."""
@@ -125,30 +160,32 @@ class Session:
 
     def run_line(self, number, line):
         try:
-            if found := command_of(line.removeprefix(codecs.BOM_UTF8) if number == 1 else line):
-                name, *numbers = found
-                getattr(self, name)(*numbers)
+            if words := words_of(line.removeprefix(codecs.BOM_UTF8) if number == 1 else line):
+                party, words = party_of(self.house, words)
+                name, *numbers = command_of(words)
+                getattr(self, name)(party, *numbers)
         except NotUnderstood as error:
             self.status = FAILED
             self.answer(f"{NOT_UNDERSTOOD}\n")
             self.say(f"line {number}: {error}{'; Ctrl-D ends' if self.is_typed and isinstance(error, NoSuchCommand) else ''}")
 
-    def read(self, place):
-        self.board, told = self.board.read(place)
+    def read(self, party, place):
+        self.board, told = self.board.read(party, place)
         self.tell(told, "" if told.refusal else line_of_lot(place, told.lot))
 
-    def assign(self, place, stamp, job):
-        self.board, told = self.board.assign(place, stamp, job)
+    def assign(self, party, place, stamp, job):
+        self.board, told = self.board.assign(party, place, stamp, job)
         self.tell(told, "0\n")
         if self.is_typed and not told.refusal:
             self.say(f"stored; the lot's stamp is now {stamp + 1}")
 
-    def list(self):
-        for place, lot in enumerate(self.board.lots):
+    def list(self, party):
+        places = self.board.places_of(party)
+        for place, lot in zip(places, self.board.lots_of(party)):
             self.answer(line_of_lot(place, lot))
-        self.answer(f"0 lots {len(self.board)}\n")
+        self.answer(f"0 lots {len(places)}\n")
 
-    def help(self):
+    def help(self, party):
         self.answer(HELP)
 
     def tell(self, told, answer):
@@ -201,15 +238,29 @@ def read_block():
         raise Failed(f"cannot read standard input: {error.strerror}") from None
 
 
-def command_of(line):
-    """The name and the numbers of a command; None where the line is empty or a comment."""
+def words_of(line):
+    """The words of a line; none where it is empty or a comment."""
     if line[:LONGEST_LINE].lstrip().startswith(b"#"):
-        return None
+        return []
     if len(line) > LONGEST_LINE:
         raise NotUnderstood(f"a line of over {LONGEST_LINE} bytes is longer than any command")
-    words = [word.decode("utf-8", "replace") for word in re.split(rb"[ \t]+", line.removesuffix(b"\r")) if word]
-    if not words:
-        return None
+    return [word.decode("utf-8", "replace") for word in re.split(rb"[ \t]+", line.removesuffix(b"\r")) if word]
+
+
+def party_of(house, words):
+    """The party that makes a command, and the words without its name."""
+    named, *others = words
+    if named not in HOUSES:
+        return HOUSES[house or "ours"], words
+    if house is not None:
+        raise NotUnderstood(f"'{named}' names a house, and with --party {house} every command is {OWNED[house]}: leave the word out")
+    if not others:
+        raise NoSuchCommand(f"after '{named}' a command is to be named: there are {', '.join(TAKEN)}, as in {named} {EXAMPLES['read']}")
+    return HOUSES[named], others
+
+
+def command_of(words):
+    """The name and the numbers of a command."""
     name, *others = words
     if name not in TAKEN:
         raise NoSuchCommand(f"{shown(name)} is not a command: there are {', '.join(TAKEN)}")
