@@ -310,12 +310,12 @@ ck_salvaged ck_salvage(const uint8_t *bytes, size_t length, size_t record_length
  * of the calls on a board only ck_board_assign hands back one that differs, where the job is stored. Given any other bytes the functions
  * answer too: a place then has a lot where it is under `count` and under 64, which is ours where it is under `ours` and otherwise the
  * partner's, and nothing outside the board is read or written. Boards are compared field by field, since the structs have padding whose
- * bytes may be anything. While a board was one house's it had no `ours`, and the functions took no party: a program from then is to be
- * changed and compiled anew. */
+ * bytes may be anything. While a board was one house's it had no `ours`, and the functions took no party: a program that was compiled
+ * then still links and runs, with wrong answers, and is to be changed and compiled anew. */
 
 enum { CK_MOST_LOTS = 64, CK_HIGHEST_STAMP = 65535 };
 
-/* The house in whose name a call is made. No place is that of any other number. */
+/* The house in whose name a call is made. No place is that of any other number from 2 to 255; C cuts a wider one to 8 bits. */
 enum { CK_OURS = 0, CK_PARTNER = 1 };
 
 /* A lot of the board. */

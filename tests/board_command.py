@@ -156,9 +156,9 @@ def check_last_stamp(folder):
 
 # --- Two houses -------------------------------------------------------------------------------------------------------
 
-SHARED = ("read 0", "ours read 3", "partner read 3", "partner read 0", "partner assign 3 0 815", "ours assign 3 0 4711", "assign 3 1 4711",
-          "partner assign 0 0 816", "partner assign 3 0 816", "partner assign 4 0 816", "ours assign 0 0 4711", "read 5", "partner read 5",
-          "list", "partner list", "ours list")
+SHARED = ("ours read 0", "ours read 3", "partner read 3", "partner read 0", "partner assign 3 0 815", "ours assign 3 0 4711",
+          "ours assign 3 1 4711", "partner assign 0 0 816", "partner assign 3 0 816", "partner assign 4 0 816", "ours assign 0 0 4711",
+          "ours read 5", "partner read 5", "ours list", "partner list")
 SHARED_PRINTED = b"""\
 0 0 0 0 219300 327100 23156 23152 23158 -2325 14 2
 17
@@ -180,10 +180,6 @@ SHARED_PRINTED = b"""\
 0 3 1 815 233000 341000 28856 28746 29034 1441 6 2
 0 4 1 816 228000 332000 26162 25984 26272 -3610 6 2
 0 lots 2
-0 0 1 4711 219300 327100 23156 23152 23158 -2325 14 2
-0 1 0 0 255910 349510 36176 33592 38760 0 0 1
-0 2 0 0 4294967295 0 65535 0 1 -2147483648 255 -
-0 lots 3
 """
 
 
@@ -204,7 +200,7 @@ def check_houses(folder):
     for ours, theirs in ((RECORDS, ()), ((), THEIRS), ((), ())):
         expect("a house without lots", board(*files_of_two(folder, ours, theirs), text=text_of(SHARED)), Lots(ours, theirs).answers(SHARED))
     expect("no file of the partner's", board(file_in(folder), text=text_of(SHARED)), Lots(RECORDS).answers(SHARED))
-    lines, commands = b" ours\tread  0 \r\n\tpartner list\r\npartner assign 3 0000 7", ("read 0", "partner list", "partner assign 3 0 7")
+    lines, commands = b" ours\tread  0 \r\n\tpartner list\r\npartner assign 3 0000 7", ("ours read 0", "partner list", "partner assign 3 0 7")
     expect("spaces", board(*files_of_two(folder), text=lines), Lots(RECORDS, THEIRS).answers(commands))
 
 
@@ -212,13 +208,13 @@ def check_limits_of_two(folder):
     """Boards of 64 lots, divided in several ways, with every place tried by both houses; and 65, which are refused."""
     commands = [f"{house} {command}" for place in range(66) for house in HOUSES
                 for command in (f"read {place}", f"assign {place} 1 7", f"assign {place} 0 {place + 1}")]
-    commands += ["list", "partner list"]
+    commands += ["ours list", "partner list"]
     for ours, theirs in ((64, 0), (0, 64), (63, 1), (1, 63), (40, 24), (3, 2)):
         lists = (22 * RECORDS)[:ours], (32 * THEIRS)[:theirs]
         expect(f"{ours} and {theirs} lots", board(*files_of_two(folder, *lists), text=text_of(commands)), Lots(*lists).answers(commands))
     for ours, theirs in ((64, 1), (1, 64), (65, 0), (0, 65), (40, 25), (3200, 3200)):
         paths = files_of_two(folder, ours * RECORDS[:1], theirs * THEIRS[:1])
-        said = f"refusal 16: {REASONS[16]}: they have {ours} and {theirs}; docs/BOARD.md tells how to make several files of one"
+        said = f"refusal 16: {REASONS[16]}: they have {ours} and {theirs}, {ours + theirs - 64} too many"
         expect(f"{ours} and {theirs} lots", board(*paths, text=b"list\n"), b"", f"cradlekeel: {paths[0]} and {paths[1]}: {said}\n".encode(), 1)
 
 
@@ -229,11 +225,11 @@ def check_party(folder):
     """With --party a run is one house's, and no line may name a house."""
     paths = files_of_two(folder)
     commands = ("list", "read 0", "read 2", "read 3", "read 4", "read 5", "assign 0 0 1", "assign 3 0 2", "assign 0 0 3", "assign 3 0 4", "list")
+    expect("ours without a second file", board("--party", "ours", paths[0], text=b"list\n"), Lots(RECORDS).answer("list"))
     for house in HOUSES:
         expected = Lots(RECORDS, THEIRS, house).answers(commands)
         for words in (["--party", house, *paths], [*paths, f"--party={house}"]):
             expect(f"the view of {house}", board(*words, text=text_of(commands)), expected)
-        expect(f"{house} without a second file", board("--party", house, paths[0], text=b"list\n"), Lots(RECORDS, (), house).answer("list"))
         for named in HOUSES:
             said = f"line 1: '{named}' names a house, and with --party {house} every command is {OWNED[house]}: leave the word out"
             for line in (f"{named} read 0", f"{named} list", named, f"{named} {named}"):
@@ -260,14 +256,17 @@ def check_isolation(folder):
 BAD_HOUSES = {  # lines, each with what is said of it
     "ours": "after 'ours' a command is to be named: there are read, assign, list, help, as in ours read 0",
     "partner": "after 'partner' a command is to be named: there are read, assign, list, help, as in partner read 0",
-    "partner ours read 0": "'ours' is not a command: there are read, assign, list, help",
-    "theirs read 0": "'theirs' is not a command: there are read, assign, list, help",
-    "Partner read 3": "'Partner' is not a command: there are read, assign, list, help",
-    "read partner 3": "read takes 1 word after it and here has 2: read PLACE, as in read 0",
-    "partner 3": "'3' is not a command: there are read, assign, list, help",
+    "partner ours read 0": "'ours' is not a command: there are read, assign, list, help, each after ours or partner",
+    "theirs read 0": "'theirs' is not a command: there are read, assign, list, help, each after ours or partner",
+    "Partner read 3": "'Partner' is not a command: there are read, assign, list, help, each after ours or partner",
+    "read 3": "read names no house, and two share the board: begin with ours or partner, as in ours read 3",
+    "list": "list names no house, and two share the board: begin with ours or partner, as in ours list",
+    "assign 0 0 5": "assign names no house, and two share the board: begin with ours or partner, as in ours assign 0 0 5",
+    "ours list partner": "list takes no words after it and here has 1: list; a house is named before the command",
+    "partner 3": "'3' is not a command: there are read, assign, list, help, each after ours or partner",
     "partner read": "read takes 1 word after it and here has none: read PLACE, as in read 0",
     "partner assign 3 65536 1": "STAMP is '65536', which is not a whole number from 0 to 65535, as in assign 0 0 4711",
-    "partner # a comment": "'#' is not a command: there are read, assign, list, help",
+    "partner # a comment": "'#' is not a command: there are read, assign, list, help, each after ours or partner",
 }
 
 
@@ -284,7 +283,7 @@ def check_histories_of_two(folder):
     for seed in range(2):
         dice, lots, commands, answers = Dice(f"two houses {seed}"), Lots(RECORDS, THEIRS), [], b""
         for _ in range(3000):
-            commands.append(dice.pick(("", "ours ", "partner ", "partner ")) + random_command(dice, lots, 5))
+            commands.append(dice.pick(("ours ", "partner ")) + random_command(dice, lots, 5))
             answers += lots.answer(commands[-1])
         check("they are stored and refused", min(map(lots.stamp, range(5))) > 20 and b"\n18 " in answers and b"\n17\n" in answers, lots.board)
         expect(f"history {seed} of two houses", board(*paths, text=text_of(commands)), answers)
@@ -374,10 +373,14 @@ def check_help_line(folder):
     check("help", len(lines) > 4 and not ran.stderr and ran.returncode == 0 and lines[-1].encode() + b"\n" == Lots(RECORDS).answers(["read 0"]), ran)
     for name in ("read PLACE ", "assign PLACE STAMP JOB ", "list ", "help "):
         check(f"help has {name}", any(line.startswith(name) for line in lines), ran)
-    check("help tells of houses", "partner read 3" in ran.stdout.decode() and "--party" in ran.stdout.decode(), ran)
     for words in (("partner help",), ("ours help",)):
         expect(f"{words[0]} is the same", board(file_in(folder), text=text_of(words)), b"".join(ran.stdout.splitlines(True)[:-1]))
     expect("help of one house is the same", board("--party", "ours", file_in(folder), text=b"help"), b"".join(ran.stdout.splitlines(True)[:-1]))
+    paths, whose = files_of_two(folder), b"Every command is ours.\n"
+    check("help says whose commands are", whose in ran.stdout, ran)
+    for words, said in (((), b"A command but help begins with the house in whose name it is made, ours or partner, as in partner read 3.\n"),
+                        (("--party", "partner"), b"Every command is the partner's.\n")):
+        expect(f"help of {words}", board(*words, *paths, text=b"help"), b"".join(ran.stdout.splitlines(True)[:-1]).replace(whose, said))
     told = board("--help").stdout.decode().splitlines()
     for number in (8, 17, 18, 19):
         check(f"help says {number} as --help does", [f"  {line}" in told for line in lines if line.startswith(f"{number} ")] == [True], ran)
@@ -493,8 +496,7 @@ def check_greetings(folder):
             ([alone], f"{alone}: 1 lot"), ([ours, theirs], f"{ours}: 3 lots, ours, from place 0; {theirs}: 2 lots, the partner's, from place 3"),
             ([alone, none], f"{alone}: 1 lot, ours, from place 0; {none}: 0 lots, the partner's"),
             (["--party", "ours", ours, theirs], f"{ours}: 3 lots, ours, from place 0"),
-            (["--party", "partner", ours, theirs], f"{theirs}: 2 lots, the partner's, from place 3"),
-            (["--party", "partner", ours], "no file: 0 lots, the partner's")):
+            (["--party", "partner", ours, theirs], f"{theirs}: 2 lots, the partner's, from place 3")):
         found = typed(words, b"")
         check(f"the greeting of {words}", found == (f"cradlekeel: {lots}; help has the commands, and Ctrl-D ends\n", 0), found)
     found, status = typed([ours, theirs], b"partner read 0\npartner assign 3 0 5\nours\n")
@@ -567,6 +569,8 @@ WRONG_USAGE = {(): "no file is named", ("a", "b", "c"): "more than two files are
                ("--party", "theirs", "a"): "--party: 'theirs' is neither ours nor partner",
                ("--party=", "a"): "--party: '' is neither ours nor partner",
                ("--party", "ours"): "no file is named", ("a", "--party"): "option --party requires argument",
+               ("--party", "partner", "a"): "--party partner: no file of the partner's is named, which is the second",
+               ("--party", "ours", "a", "--party=partner"): "--party is given twice, as 'ours' and as 'partner'",
                ("--kelvin", "a"): "option --kelvin not recognized", ("-k", "a"): "option -k not recognized"}
 
 
@@ -576,7 +580,7 @@ def check_usage(folder):
         lines = ran.stdout.decode().splitlines()
         usage = "usage: cradlekeel board [--party ours|partner] OURS [THEIRS] < COMMANDS"
         check(f"board {word}", lines[0] == usage and not ran.stderr and not ran.returncode, ran)
-        options = {"  --party HOUSE    ours or partner: every command is made in the name of this house", "  -h, --help       this text"}
+        options = {"  --party HOUSE    ours or partner: every command is made in the name of this house, whose file is named", "  -h, --help       this text"}
         check(f"board {word}: options and statuses", options <= set(lines) and "Exit status: 0" in ran.stdout.decode(), ran)
         check(f"board {word}: lines that a terminal shows", max(map(len, lines)) <= 132, max(map(len, lines)))
         for words in ("lives as long as the command", "Two runs are two boards"):

@@ -67,9 +67,9 @@ def check_equal(party, places, one, other):
 
 # --- Vectors ----------------------------------------------------------------------------------------------------------
 
-# A party, how many lots it has, and how many the other house has on two days; before the partner's places the same number.
+# A party, how many lots it has, and how many the other house has on two days; where the partner has lots, the same number before them.
 HOUSES = ((OURS, 1, (63, 0)), (OURS, 20, (44, 7)), (OURS, 63, (0, 1)), (OURS, 0, (3, 64)),
-          (PARTNER, 1, (63, 63)), (PARTNER, 24, (40, 40)), (PARTNER, 63, (1, 1)))
+          (PARTNER, 1, (63, 63)), (PARTNER, 24, (40, 40)), (PARTNER, 63, (1, 1)), (PARTNER, 0, (64, 5)))
 
 
 def isolation_cases(dice):
@@ -104,11 +104,11 @@ def begun(party, own, other):
 
 
 def check_random_days(dice):
-    """Two days of a party, the other house with other lots and other calls; where the party is ours, with any number of lots."""
+    """Two days of a party, the other house with other lots and other calls; where they are not before the party's, any number of lots."""
     party, size = dice.pick(PARTIES), dice.pick((0, 1, 2, 3, 17, 63))
     before = dice.below(65 - size)
     own, first = any_lots(size, dice), any_lots(before, dice)
-    second = any_lots(before if party == PARTNER else dice.below(65 - size), dice)
+    second = any_lots(before if party == PARTNER and size else dice.below(65 - size), dice)
     one, other = begun(party, own, first), begun(party, own, second)
     first_day(one, 25, dice)
     another_day(other, party, calls_by(party, one), dice)
@@ -141,10 +141,10 @@ def check_short_days(party, own, others):
 
 ONE, ANOTHER, THIRD = ((number,) * 8 for number in (1, 2, 3))
 
-# A party, its own list, and lists of the other house; before the partner's places they are of one length.
+# A party, its own list, and lists of the other house; where the partner has lots, those before them are of one length.
 SHORT_LOADS = (
     (OURS, [], ([], [ONE], [ANOTHER, THIRD])), (OURS, [ONE], ([], [ANOTHER], [THIRD], [THIRD, ONE])),
-    (OURS, [ONE, ONE], ([], [ANOTHER])), (PARTNER, [], ([ONE], [ANOTHER])), (PARTNER, [ONE], ([ANOTHER], [THIRD])),
+    (OURS, [ONE, ONE], ([], [ANOTHER])), (PARTNER, [], ([], [ONE], [ANOTHER, THIRD])), (PARTNER, [ONE], ([ANOTHER], [THIRD])),
     (PARTNER, [ONE, ANOTHER], ([ANOTHER], [THIRD])), (PARTNER, [ONE], ([ONE, ANOTHER], [THIRD, ONE])))
 
 

@@ -40,7 +40,7 @@ def check_types():
     assert [(party.name, party.value) for party in Party] == [("OURS", 0), ("PARTNER", 1)] and pickle.loads(pickle.dumps(PARTNER)) is PARTNER
     assert empty == Board() and hash(empty) == hash(Board()) and empty != () and not empty == None  # noqa: E711
     for given in ([], [GOOD], None):
-        assert "use Board.load(records)" in str(fault_of(TypeError, lambda: Board(given)))
+        assert "use Board.load(ours, theirs)" in str(fault_of(TypeError, lambda: Board(given)))
     assert {type_.__module__ for type_ in (Board, Lot, Party, Told)} == {"cradlekeel"}
     assert {"Board", "Lot", "Party", "Told"} <= set(cradlekeel.__all__)
 
@@ -71,6 +71,7 @@ def check_numbers():
             kind = ValueError if isinstance(bad, int) else TypeError
             fault = str(fault_of(kind, lambda: call(Board(), bad)))
             assert fault.startswith(f"{name.split()[0]} is {bad!r}, which") and (kind is TypeError or f"{bits} bits" in fault), fault
+        assert str(fault_of(TypeError, lambda: call(Board(), PARTNER))).endswith("which is a party: the party comes first")
 
 
 def check_parties():
@@ -353,8 +354,8 @@ def check_copies():
         assert copied == board and type(copied) is Board and bytes(copied._stored.lots[2]) == bytes(32)
         assert copied.assign(OURS, 0, 1, 9)[1] == copied.assign(PARTNER, 1, 0, 9)[1] == NOTHING
         assert copied.read(OURS, 1)[1] == copied.read(PARTNER, 0)[1] == NO_PLACE
-    for copied in map(copy.copy, (Board(), Board.load([], 64 * [GOOD])[0])):
-        assert copied in (Board(), Board.load([], 64 * [GOOD])[0])
+    for board in (Board(), Board.load([], 64 * [GOOD])[0]):
+        assert copy.copy(board) == board
 
 
 OLDER_LIBRARY = """

@@ -105,7 +105,7 @@ class Board:
 
     def __new__(cls, *given):  # and no __init__, which could be called again and change a board
         if given:
-            raise TypeError("Board() takes nothing and has no lots; use Board.load(records)")
+            raise TypeError("Board() takes nothing and has no lots; use Board.load(ours, theirs)")
         return cls._holding(StoredBoard())
 
     @classmethod
@@ -149,7 +149,7 @@ class Board:
         >>> board.read(Party.OURS, 0)[1]
         Told(refusal=17, stamp=0, lot=None)
         """
-        given = _party(party), whole("place", place, ctypes.c_size_t)
+        given = _party(party), _number("place", place, ctypes.c_size_t)
         answer = c_function("ck_board_read")(self._stored, *given)
         return self._answered(answer, None if answer.told.refusal else _lot_of(answer.told.lot))
 
@@ -169,8 +169,8 @@ class Board:
             ...
         ValueError: party is 2, which is neither Party.OURS, 0, nor Party.PARTNER, 1
         """
-        at = _party(party), whole("place", place, ctypes.c_size_t)
-        given = whole("stamp", stamp, ctypes.c_uint16), whole("job", job, ctypes.c_uint32)
+        at = _party(party), _number("place", place, ctypes.c_size_t)
+        given = _number("stamp", stamp, ctypes.c_uint16), _number("job", job, ctypes.c_uint32)
         return self._answered(c_function("ck_board_assign")(self._stored, *at, *given))
 
     @property
@@ -226,6 +226,13 @@ def _board_of(ours, lots):
     """The board of lots of which so many are ours."""
     stored = [StoredLot(StoredRecord(*lot.record), lot.job, lot.stamp) for lot in lots]
     return Board._holding(StoredBoard(ours, len(lots), tuple(stored)))
+
+
+def _number(name, value, kind):
+    """A number that a call takes after the party; a party in its place is a slip."""
+    if isinstance(value, Party):
+        raise TypeError(f"{name} is {value!r}, which is a party: the party comes first")
+    return whole(name, value, kind)
 
 
 def _lot_of(stored):

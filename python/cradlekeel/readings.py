@@ -26,7 +26,7 @@ REASONS = {
     14: "the record length, in the last 8 bytes of the file or to salvage by, is neither 18 nor 20: a file without one is no record file, or was cut short or added to",
     15: "the file was cut short, damaged or joined to another: its length, or the distance in its last 8 bytes, does not fit the count and length of its records",
     16: "there are more than 64 records, the most that a board has places for",
-    17: "the caller's house has no lot at that place of the board; places are counted from 0",
+    17: "the caller's house has no lot at that place of the board; ours are counted from 0, and the partner's follow ours",
     18: "the stamp is not the lot's current one, so nothing is stored: read the lot again, and then decide",
     19: "the lot's stamp is 65,535, the last one, so nothing more is stored there until the board is loaded anew",
 }

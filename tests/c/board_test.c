@@ -207,14 +207,13 @@ static ck_board_answer load_equal(size_t ours, size_t theirs) {
 
 /* Up to 64 records, of both houses together, become the lots in their order, ours first; of more there are none. */
 static void loads(void) {
-    static const size_t together[] = {0, 1, 2, 63, 64, 65, 66};
     static const size_t over[][2] = {{64, 64}, {128, 0}, {0, 128}, {200, 56}, {255, 1}, {256, 0}, {1, 255}, {3600, 0}, {64, 3600},
                                      {MOST_NUMBERS, 0}, {1, MOST_NUMBERS}, {MOST_NUMBERS, MOST_NUMBERS}, {65535, 1}, {1, 65535}};
     ck_board none = board_of(0, 0);
-    for (size_t i = 0; i < sizeof together / sizeof *together; i++)
-        for (size_t ours = 0; ours <= together[i]; ours++) {
-            size_t theirs = together[i] - ours;
-            if (together[i] > MOST_LOTS) {
+    for (size_t together = 0; together <= MOST_LOTS + 2; together++)
+        for (size_t ours = 0; ours <= together; ours++) {
+            size_t theirs = together - ours;
+            if (together > MOST_LOTS) {
                 expect(load_equal(ours, theirs), CK_TOO_MANY_LOTS, 0, &NO_LOT, &none, "a load of 65 or 66");
                 continue;
             }

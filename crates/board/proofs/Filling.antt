@@ -11,7 +11,6 @@ use Rattle.records.specs.Files.{zeroRecord}
 use Rattle.records.specs.Columns.{over}
 use Rattle.records.specs.ColumnsLaws.{over-append}
 use Rattle.board.specs.declared.Lot.{Lot}
-use Rattle.board.specs.declared.Board.{Board}
 use Rattle.board.specs.Table.{mostLots, zeroLot, fresh}
 use Rattle.board.specs.Boards.{boardOf}
 
@@ -19,11 +18,11 @@ use Rattle.board.specs.Boards.{boardOf}
 abbrev lotsAfter : List Lot → List Record → ℕ → List Lot
 lotsAfter t rs i = t ++ map fresh (take i rs)
 
--- and zeros beyond them
+-- the slots that hold these, and zeros beyond them
 abbrev pub slotsAfter : List Lot → List Record → ℕ → List Lot
 slotsAfter t rs i = over (lotsAfter t rs i) (replicate mostLots zeroLot)
 
--- before the first of them
+-- the slots before the first of the list's lots is put
 pub slots-none : (t : List Lot) (rs : List Record) → over t (replicate mostLots zeroLot) ≡ slotsAfter t rs 0
 slots-none t rs = ap (λ (z : List Lot). over z (replicate mostLots zeroLot)) (sym (append-nil t))
 
@@ -38,7 +37,7 @@ module _ (t : List Lot) (rs : List Record) (i : ℕ) where
       ∙ ap (lotsAfter t rs) (sym (add-one i))
 
   module _ {lots : List Lot} (e : lots ≡ slotsAfter t rs i) where
-    -- one lot more
+    -- the slots with one lot more
     pub slots-next : {r : Record} {k : ℕ} → k ≡ length t → i < length rs → k + length rs ≤ mostLots → r ≡ getD rs i zeroRecord → set lots (k + i) (fresh r) ≡ slotsAfter t rs (i + 1)
     slots-next {r} {k} n h m f =
         let l = lots-length (omega arith) in
@@ -48,7 +47,7 @@ module _ (t : List Lot) (rs : List Record) (i : ℕ) where
         ∙ over-append (lotsAfter t rs i) (fresh (getD rs i zeroRecord)) (replicate mostLots zeroLot) (omega (arith, l, n, length-replicate mostLots zeroLot))
         ∙ ap (λ (z : List Lot). over z (replicate mostLots zeroLot)) (lots-next h)
 
-    -- all of them
+    -- the board when all lots of the list are put
     pub slots-all : (ours : ℕ) {k n : ℕ} → k ≡ length t → n ≡ length rs → i ≡ n → record { ours = ours; count = k + n; lots = lots } ≡ boardOf ours (t ++ map fresh rs)
     slots-all ours {k} {n} x m f =
         let c : k + n ≡ length (t ++ map fresh rs) = sym (length-append t (map fresh rs) ∙ omega (arith, length-map rs fresh, x, m)) in

@@ -18,13 +18,11 @@ use Rattle.board.specs.Boards.{boardOf, tableOf, loaded}
 use Rattle.board.specs.RuleLaws.{load-over, load-taken}
 use Rattle.board.specs.SharingLaws.{table-board}
 
--- a board that is the board of a table
+-- A board that is the board of a table is the board of its own table, and with lots behind its own that of the longer table.
 module _ (n : ℕ) (t : List Lot) {b : Board} (e : b ≡ boardOf n t) where
-  -- is that of its own
   of-own : b ≡ boardOf (b .ours) (tableOf b)
   of-own = e ∙ ap (boardOf n) (sym (table-board n t)) ∙ ap (λ (z : Board). boardOf (z .ours) (tableOf z)) (sym e)
 
-  -- and with lots behind its own it is that of the longer table
   joined : (l : List Lot) {r : Board} → r ≡ boardOf (b .ours) (tableOf b ++ l) → r ≡ boardOf n (t ++ l)
   joined l f = f ∙ ap (λ (z : Board). boardOf (z .ours) (tableOf z ++ l)) e ∙ ap (λ (z : List Lot). boardOf n (z ++ l)) (table-board n t)
 
@@ -38,7 +36,7 @@ module _ (c d : Columns) {n m : ℕ} (x : n ≡ sizeOf c) (y : m ≡ sizeOf d) w
       ap (λ (z : Board). record { board = z; told = Refused TooManyLots 0 }) e
       ∙ sym (load-over (listOf c) (listOf d) (omega (arith, together, leb-false (n + m) mostLots f)))
 
-  -- our list is put on a board of no lots
+  -- Our list is put on the board a of no lots, and b comes of it.
   module _ (f : leb (n + m) mostLots ≡ true) {a : Board} (e : a ≡ boardOf n []) where
     pub own : a ≡ boardOf (a .ours) (tableOf a)
     own = of-own n [] e
@@ -46,7 +44,6 @@ module _ (c d : Columns) {n m : ℕ} (x : n ≡ sizeOf c) (y : m ≡ sizeOf d) w
     pub room : a .count + (n + m) ≤ mostLots
     room = omega (arith, ap (λ (z : Board). z .count) e, leb-true (n + m) mostLots f)
 
-    -- and theirs behind it
     module _ {b : Board} (g : b ≡ boardOf (a .ours) (tableOf a ++ map fresh (listOf c))) where
       ours : b ≡ boardOf n (map fresh (listOf c))
       ours = joined n [] e (map fresh (listOf c)) g

@@ -12,7 +12,7 @@ use Rattle.board.specs.declared.Lot.{Lot}
 use Rattle.board.specs.declared.Board.{Board}
 use Rattle.board.specs.declared.Told.{Told}
 use Rattle.board.specs.declared.Answered.{Answered}
-use Rattle.board.specs.Table.{mostLots, zeroLot, tableFrom, loadTold, Call, tell, next}
+use Rattle.board.specs.Table.{mostLots, zeroLot, hasRoom, tableFrom, loadTold, Call, tell, next}
 
 -- the board of a table: the lots in their places, the first `ours` of them ours, and zeros beyond them
 abbrev pub boardOf : (ours : ℕ) → List Lot → Board
@@ -28,7 +28,7 @@ withTable b t = record { ours = b .ours; count = b .count; lots = over t (b .lot
 
 -- how many lots of a load are ours: none where it is refused
 abbrev pub oursFrom : (ours theirs : List Record) → ℕ
-oursFrom ours theirs = cond (leb (length (ours ++ theirs)) mostLots) (length ours) 0
+oursFrom ours theirs = cond (hasRoom (ours ++ theirs)) (length ours) 0
 
 -- a load hands back the board of both lists' table, ours first; they count together
 abbrev pub loaded : (ours theirs : List Record) → Answered

@@ -52,6 +52,11 @@ abbrev pub lotsOf : Party → Board → List Lot
 lotsOf Ours b = take (b .ours) (tableOf b)
 lotsOf Partner b = drop (b .ours) (tableOf b)
 
+-- the place of a house's first lot, where so many places come before; 0 stands for it where the house has no lot
+abbrev pub firstOf : (before : ℕ) → List Record → ℕ
+firstOf before [] = 0
+firstOf before (r ∷ rs) = before
+
 -- the house's part in a day: its load, the place of its first lot, and its calls
 pub record Part : Type 0 where
   pub load : List Record
@@ -60,7 +65,7 @@ pub record Part : Type 0 where
 
 abbrev pub partOf : Party → Day → Part
 partOf Ours d = record { load = d .ours; first = 0; calls = callsOf Ours (d .calls) }
-partOf Partner d = record { load = d .theirs; first = length (d .ours); calls = callsOf Partner (d .calls) }
+partOf Partner d = record { load = d .theirs; first = firstOf (length (d .ours)) (d .theirs); calls = callsOf Partner (d .calls) }
 
 -- the house's view of a day: what each of its calls is told, and its lots at the end
 pub record View : Type 0 where

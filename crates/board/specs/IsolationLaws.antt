@@ -6,10 +6,10 @@ use Prim.Native.Nat.{ℕ, _+_, _-_, _≤_, _<_}
 use native.Mathlib.Nat.{zero-add}
 use native.Mathlib.Omega.{arith}
 use lib.Dec.{ltb, leb}
-use lib.ListN.{length, take, drop, replicate, length-append, length-map, length-replicate, length-drop, List·getD-append}
+use lib.ListN.{length, take, drop, replicate, length-append, length-map, length-replicate, length-drop, drop-of-length-le, List·getD-append}
 use lib.Seq.{getD-take, getD-drop, getD-append-add, ext-getD, take-length, length-take-le}
-use borrow.Author.Tests.{lt-ltb, ltb-true, le-leb, leb-true}
-use Rattle.arith.specs.TestLaws.{and-both, both-and}
+use borrow.Author.Tests.{lt-ltb, le-ltb, ltb-true, le-leb, leb-true}
+use Rattle.arith.specs.TestLaws.{untrue, and-both, both-and}
 use Rattle.records.specs.declared.fields.Record.{Record}
 use Rattle.refusal.specs.declared.Refusal.the-variants.{TooManyLots}
 use Rattle.board.specs.declared.Party.{Party}
@@ -21,10 +21,10 @@ use Rattle.board.specs.declared.Answered.{Answered}
 use Rattle.board.specs.Table.{mostLots, zeroLot, fresh, loadTold, lotAt, Call, caller, reaches, tell, next, tableAfter, answers}
 use Rattle.board.specs.TableLaws.{after-length}
 use Rattle.board.specs.Boards.{boardOf, owns, boardAfter, toldIn}
-use Rattle.board.specs.RuleLaws.{isRefused, load-taken, ours-reach, theirs-reach}
+use Rattle.board.specs.RuleLaws.{isRefused, load-taken, table-length, ours-reach, theirs-reach}
 use Rattle.board.specs.SharingLaws.{table-board, after-board, told-board}
 use Rattle.board.specs.AlikeLaws.{Alike, tell-alike, own-alike, other-alike}
-use Rattle.board.specs.Isolation.{Day, morning, same, isOwn, callsOf, toldOf, lotsOf, Part, partOf, View, viewOf, Isolated}
+use Rattle.board.specs.Isolation.{Day, morning, same, isOwn, callsOf, toldOf, lotsOf, firstOf, Part, partOf, View, viewOf, Isolated}
 
 -- ---- a house by itself
 
@@ -36,11 +36,13 @@ from first w p = leb first p
 abbrev behind : ℕ → List Lot → List Lot
 behind first l = replicate first zeroLot ++ l
 
--- what its calls are told there, one after the other, and its lots at the end
+-- what calls are told there, one after the other, and the lots at the end
+abbrev viewBehind : (first : ℕ) → List Lot → List (Call Party) → View
+viewBehind first l cs = record { told = answers (from first) (behind first l) cs; lots = drop first (tableAfter (from first) (behind first l) cs) }
+
+-- the view that a house's part by itself gives
 abbrev pub alone : Part → View
-alone a =
-    let t = behind (a .first) (map fresh (a .load)) in
-    record { told = answers (from (a .first)) t (a .calls); lots = drop (a .first) (tableAfter (from (a .first)) t (a .calls)) }
+alone a = viewBehind (a .first) (map fresh (a .load)) (a .calls)
 
 -- the caller of an own call is the house, and no place is both houses'
 own-caller : (w v : Party) → same w v ≡ true → v ≡ w
@@ -59,7 +61,7 @@ apart n Partner Partner e p x y = false≢true (sym e)
 module _ (n k : ℕ) (w : Party) where
   told-alone : (t t′ : List Lot) → Alike (owns n) (from k) w t t′ → (cs : List (Call Party)) → toldOf w cs (answers (owns n) t cs) ≡ answers (from k) t′ (callsOf w cs)
   told-alone t t′ a [] = refl
-  told-alone t t′ a (c ∷ cs) = go (isOwn w c) refl (λ u u′ k. told-alone u u′ k cs)
+  told-alone t t′ a (c ∷ cs) = go (isOwn w c) refl (λ u u′ b. told-alone u u′ b cs)
     where
       go : (b : Bool) → isOwn w c ≡ b →
           ((u u′ : List Lot) → Alike (owns n) (from k) w u u′ → toldOf w cs (answers (owns n) u cs) ≡ answers (from k) u′ (callsOf w cs)) →
@@ -73,7 +75,7 @@ module _ (n k : ℕ) (w : Party) where
 
   after-alone : (t t′ : List Lot) → Alike (owns n) (from k) w t t′ → (cs : List (Call Party)) → Alike (owns n) (from k) w (tableAfter (owns n) t cs) (tableAfter (from k) t′ (callsOf w cs))
   after-alone t t′ a [] = a
-  after-alone t t′ a (c ∷ cs) = go (isOwn w c) refl (λ u u′ k. after-alone u u′ k cs)
+  after-alone t t′ a (c ∷ cs) = go (isOwn w c) refl (λ u u′ b. after-alone u u′ b cs)
     where
       go : (b : Bool) → isOwn w c ≡ b →
           ((u u′ : List Lot) → Alike (owns n) (from k) w u u′ → Alike (owns n) (from k) w (tableAfter (owns n) u cs) (tableAfter (from k) u′ (callsOf w cs))) →
@@ -99,12 +101,12 @@ module _ (n : ℕ) (w : Party) (first : ℕ) (l t : List Lot) where
           reach = λ p. h .reach p ∙ ap (λ (k : ℕ). leb first p && ltb p k) (sym behind-length);
           lot = λ p r.
               let b = and-both (leb first p) (ltb p (first + length l)) (sym (h .reach p) ∙ r) in
-              let from = leb-true first p (b .0) in
-              let to = ltb-true p (first + length l) (b .1) in
+              let low = leb-true first p (b .0) in
+              let high = ltb-true p (first + length l) (b .1) in
               let i = p - first in
-              let x : p ≡ first + i = omega (arith, from) in
-              let y : length (replicate first zeroLot) + i ≡ p = omega (arith, from, length-replicate first zeroLot) in
-              ap (lotAt t) x ∙ h .lot i (omega (arith, from, to)) ∙ sym (getD-append-add (replicate first zeroLot) l i zeroLot) ∙ ap (lotAt (behind first l)) y;
+              let x : p ≡ first + i = omega (arith, low) in
+              let y : length (replicate first zeroLot) + i ≡ p = omega (arith, low, length-replicate first zeroLot) in
+              ap (lotAt t) x ∙ h .lot i (omega (arith, low, high)) ∙ sym (getD-append-add (replicate first zeroLot) l i zeroLot) ∙ ap (lotAt (behind first l)) y;
         }
 
     -- and its lots stand there at the end
@@ -129,9 +131,6 @@ module _ (xs ys : List Record) where
   abbrev both : List Lot
   both = map fresh (xs ++ ys)
 
-  both-length : length both ≡ length xs + length ys
-  both-length = length-map (xs ++ ys) fresh ∙ length-append xs ys
-
   both-is : both ≡ map fresh xs ++ map fresh ys
   both-is = map-append fresh xs ys
 
@@ -140,7 +139,7 @@ module _ (xs ys : List Record) where
       record {
         reach = λ p. ours-reach xs ys p ∙ sym (rw (le-leb 0 p (omega arith), length-map xs fresh, zero-add (length xs)) refl);
         lot = λ i h. ap (λ (k : ℕ). lotAt both k) (zero-add i) ∙ ap (λ (t : List Lot). lotAt t i) both-is ∙ List·getD-append (map fresh xs) (map fresh ys) zeroLot i h;
-        room = omega (arith, length-map xs fresh, both-length);
+        room = omega (arith, length-map xs fresh, table-length xs ys);
       }
 
   theirs-stand : Stands (length xs) Partner (length xs) (map fresh ys) both
@@ -150,8 +149,33 @@ module _ (xs ys : List Record) where
         lot = λ i h.
             ap (λ (t : List Lot). lotAt t (length xs + i)) both-is ∙ ap (λ (k : ℕ). lotAt (map fresh xs ++ map fresh ys) (k + i)) (sym (length-map xs fresh))
             ∙ getD-append-add (map fresh xs) (map fresh ys) i zeroLot;
-        room = omega (arith, length-map ys fresh, both-length);
+        room = omega (arith, length-map ys fresh, table-length xs ys);
       }
+
+-- a partner without lots reaches nothing
+none-stand : (xs : List Record) → Stands (length xs) Partner 0 [] (both xs [])
+none-stand xs =
+    record {
+      reach = λ p. untrue (reaches (owns (length xs)) (both xs []) Partner p) (λ e.
+          let b = and-both (leb (length xs) p) (ltb p (length xs + 0)) (sym (theirs-reach xs [] p) ∙ e) in
+          omega (arith, leb-true (length xs) p (b .0), ltb-true p (length xs + 0) (b .1)))
+          ∙ sym (rw (le-leb 0 p (omega arith), le-ltb p 0 (omega arith)) refl);
+      lot = λ i h. absurd (omega arith);
+      room = omega arith;
+    }
+
+-- so the partner's lots stand from its first place on
+partner-stands : (xs ys : List Record) → Stands (length xs) Partner (firstOf (length xs) ys) (map fresh ys) (both xs ys)
+partner-stands xs [] = none-stand xs
+partner-stands xs (y ∷ ys) = theirs-stand xs (y ∷ ys)
+
+-- and what lies behind our places is as many lots from there on
+behind-ours : (xs ys : List Record) (t : List Lot) → length t ≡ length xs + length ys → drop (length xs) t ≡ take (length (map fresh ys)) (drop (firstOf (length xs) ys) t)
+behind-ours xs [] t e = drop-of-length-le t {i = length xs} (omega arith)
+behind-ours xs (y ∷ ys) t e =
+    let l = drop (length xs) t in
+    let k : length l ≡ length (map fresh (y ∷ ys)) = length-drop (length xs) t ∙ omega (arith, length-map (y ∷ ys) fresh) in
+    sym (take-length l) ∙ ap (λ (j : ℕ). take j l) k
 
 -- ---- a day
 
@@ -169,7 +193,7 @@ endOf d = tableAfter (owns (length (d .ours))) (both (d .ours) (d .theirs)) (d .
 -- a house that stands on the table of the loads has the view that its lots alone give it
 module _ (w : Party) (d : Day) (first : ℕ) (l : List Lot) (h : Stands (length (d .ours)) w first l (both (d .ours) (d .theirs))) where
   stands-view : lotsOf w (boardOf (length (d .ours)) (endOf d)) ≡ take (length l) (drop first (endOf d)) → morning d .told ≡ Loaded →
-      viewOf w d ≡ record { told = answers (from first) (behind first l) (callsOf w (d .calls)); lots = drop first (tableAfter (from first) (behind first l) (callsOf w (d .calls))) }
+      viewOf w d ≡ viewBehind first l (callsOf w (d .calls))
   stands-view e m =
       let n = length (d .ours) in
       let t = both (d .ours) (d .theirs) in
@@ -187,11 +211,9 @@ view-alone Ours d m =
     stands-view Ours d 0 (map fresh (d .ours)) (ours-stand (d .ours) (d .theirs)) e m
 view-alone Partner d m =
     let n = length (d .ours) in
-    let l = drop n (endOf d) in
-    let k : length l ≡ length (map fresh (d .theirs)) =
-    length-drop n (endOf d) ∙ omega (arith, after-length (owns n) (both (d .ours) (d .theirs)) (d .calls), both-length (d .ours) (d .theirs), length-map (d .theirs) fresh) in
-    let e = ap (drop n) (table-board n (endOf d)) ∙ sym (take-length l) ∙ ap (λ (j : ℕ). take j l) k in
-    stands-view Partner d n (map fresh (d .theirs)) (theirs-stand (d .ours) (d .theirs)) e m
+    let k = after-length (owns n) (both (d .ours) (d .theirs)) (d .calls) ∙ table-length (d .ours) (d .theirs) in
+    let e = ap (drop n) (table-board n (endOf d)) ∙ behind-ours (d .ours) (d .theirs) (endOf d) k in
+    stands-view Partner d (firstOf n (d .theirs)) (map fresh (d .theirs)) (partner-stands (d .ours) (d .theirs)) e m
 
 pub isolation : (w : Party) → Isolated w
 isolation w d e l m p = view-alone w d l ∙ ap alone p ∙ sym (view-alone w e m)

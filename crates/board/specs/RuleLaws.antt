@@ -107,7 +107,7 @@ load-taken xs ys h = rw (le-leb (length (xs ++ ys)) mostLots h) refl
 
 -- a load that is taken gives our house the first places, as many as its list has records, and the partner those behind them
 module _ (xs ys : List Record) where
-  table-length : length (map fresh (xs ++ ys)) ≡ length xs + length ys
+  pub table-length : length (map fresh (xs ++ ys)) ≡ length xs + length ys
   table-length = length-map (xs ++ ys) fresh ∙ length-append xs ys
 
   pub ours-reach : (p : ℕ) → reaches (owns (length xs)) (map fresh (xs ++ ys)) Ours p ≡ ltb p (length xs)

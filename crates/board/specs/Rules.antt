@@ -1,4 +1,4 @@
--- What a call is told, rule by rule: each refusal under its condition, where none before it is met (document 02, No. 6).
+-- What a call is told, rule by rule: each refusal under its condition, where none before it is met (document 02, No. 6 and 11).
 use mathlib.Core.Path.{_≡_}
 use mathlib.Core.Bool.{Bool, true}
 use mathlib.Core.List.{List}

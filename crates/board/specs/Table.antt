@@ -32,13 +32,17 @@ fresh r = record { «record» = r; job = 0; stamp = 0 }
 abbrev pub withJob : Lot → ℕ → Lot
 withJob l job = record { «record» = l .«record»; job = job; stamp = l .stamp + 1 }
 
+-- whether a board has a place for each record of a list
+abbrev pub hasRoom : List Record → Bool
+hasRoom rs = leb (length rs) mostLots
+
 -- the table of a list of records, in its order; that of more than 64 has no lots
 abbrev pub tableFrom : List Record → List Lot
-tableFrom rs = cond (leb (length rs) mostLots) (map fresh rs) []
+tableFrom rs = cond (hasRoom rs) (map fresh rs) []
 
 -- what the load is told: refusal 16, or that the board is loaded
 abbrev pub loadTold : List Record → Told
-loadTold rs = cond (leb (length rs) mostLots) Loaded (Refused TooManyLots 0)
+loadTold rs = cond (hasRoom rs) Loaded (Refused TooManyLots 0)
 
 -- the lot at a place, counted from 0
 abbrev pub lotAt : List Lot → ℕ → Lot

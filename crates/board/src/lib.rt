@@ -77,7 +77,7 @@ fn fits(n: usize, m: usize) -> bool
     m <= MOST_LOTS - n
 }
 
-// Whether a place is the party's on a board whose first places are ours, so many.
+// Whether a place is the party's on a board whose first `ours` places are ours.
 fn is_own(ours: usize, party: Party, place: usize) -> bool
     ensures { λ r. ⌜ r ≡ owns ours party place ⌝ }
 {

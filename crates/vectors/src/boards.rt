@@ -333,8 +333,8 @@ fn put_told(told: Told, out: &mut [u8; 65536], at: usize) -> usize {
     put::number(out, first, stamp_of(told) as u64)
 }
 
-// `refusal` of the load that the text's first number splits, `refusal stamp` of each call that it then names, and a checksum. The board is a local of this one
-// loop, since what holds things from line to line is arrays of numbers.
+// `refusal` of the load that the text's first number splits, `refusal stamp` of each call that it then names, and a checksum. The board is
+// a local of this one loop, since what holds things from line to line is arrays of numbers.
 pub(crate) fn history(text: &[u8], lists: &Lists, out: &mut [u8; 65536], at: usize) -> usize {
     let split = number_after(text, 0);
     let loaded = load_held(lists, split.value as usize);

@@ -64,7 +64,11 @@ def options_of(words, names):
         raise WrongUsage(error.msg) from None
     if {"-h", "--help"} & {name for name, _ in options}:
         raise HelpAsked
-    return dict(options), others
+    given = dict(options)
+    for name, value in options:
+        if value != given[name]:
+            raise WrongUsage(f"{name} is given twice, as {shown(value)} and as {shown(given[name])}")
+    return given, others
 
 
 def whole_number(option, text):

@@ -10,9 +10,10 @@ of its refusal, 0 for none:
   list                      a line for each lot of the house as read has it, and then 0 lots COUNT
   help                      these commands, in several lines
 
-A command is made in the name of our house, or of the one that stands before it, as in partner read 3 or ours list. A house reads,
-assigns and lists its own lots only: a place of the other is to it as one without a lot, 17. With --party all commands are made in
-the name of that house, and a line that names one is not understood: so the answers are those of one house, for it to see.
+With THEIRS a command begins with the house in whose name it is made, as in partner read 3 or ours list; without it a command is
+ours. A house reads, assigns and lists its own lots only: a place of the other is to it as one without a lot, 17. With --party all
+commands are made in the name of that house, and a line that names one is not understood: so the answers are those of one house, for
+it to see.
 
 To assign a lot, name the stamp that you saw with it. It goes up by one each time a job is stored, so that nothing which was stored
 since is overwritten. The last eight numbers of a lot are its record, as cradlekeel show prints it; the place among them is the one
@@ -33,10 +34,10 @@ its answer at once. Where standard input is a terminal, a refusal is said in wor
 
 The board lives as long as the command. The files are only read, and nothing that is assigned is stored, there or anywhere else:
 this is for trying a board, and for scripts that keep the command running. Two runs are two boards that know nothing of each other;
-to share a board, all commands go to one run, those of both houses too. docs/BOARD.md shows how, and has an example with two
-dispatchers and one with two houses.
+to share a board, all commands of a house go to one run. docs/BOARD.md shows how, and has an example with two dispatchers and one
+with two houses.
 
-  --party HOUSE    ours or partner: every command is made in the name of this house
+  --party HOUSE    ours or partner: every command is made in the name of this house, whose file is named
   -h, --help       this text
 
 Examples:
@@ -61,6 +62,7 @@ import os
 import re
 
 from .. import Board, Party, Refusal
+from ..boards import MOST_LOTS
 from . import ANSWERED, BLOCK, FAILED, BadFile, Failed, WrongUsage, counted, options_of, say, shown, write_out
 from .show import line_of, records_of
 
@@ -77,8 +79,7 @@ read PLACE                the lot at a place: 0 PLACE STAMP JOB u v place low hi
 assign PLACE STAMP JOB    gives the lot to a job, where the stamp is the lot's current one: 0
 list                      a line for each lot of the house as read has it, and then: 0 lots COUNT
 help                      these lines
-A command is made in the name of our house, or of the one named before it, as in partner read 3, unless --party names one for all.
-A refused command leaves the board as it was. Its answer is the number alone, but for 18:
+{houses}A refused command leaves the board as it was. Its answer is the number alone, but for 18:
 8           the line is not understood; a message on standard error has its number and says what would be right
 17          the house has no lot at that place
 18 STAMP    the lot's current stamp is this one, not the one named: read the lot again, and then decide
@@ -103,7 +104,7 @@ def run(words):
     board, is_typed = load(names), os.isatty(0)
     if is_typed:
         say(f"{greeting(board, house, names)}; help has the commands, and Ctrl-D ends")
-    return Session(board, house, is_typed).run()
+    return Session(board, house, len(names) == len(HOUSES), is_typed).run()
 
 
 def check_usage(house, names):
@@ -115,6 +116,8 @@ def check_usage(house, names):
         raise WrongUsage("the name of a file is empty" if any(names) else "no file is named")
     if "-" in names:
         raise WrongUsage("'-' is not the name of a file: standard input has the commands")
+    if house == "partner" and len(names) == 1:
+        raise WrongUsage("--party partner: no file of the partner's is named, which is the second")
 
 
 def load(names):
@@ -122,10 +125,15 @@ def load(names):
     lists = list(map(records_of, names))  # the first is at fault before the second is looked at
     board, told = Board.load(*lists)
     if told.refusal:
-        counts = " and ".join(str(len(records)) for records in lists)
-        has, of = (f"it has {counts}", "it") if len(lists) == 1 else (f"they have {counts}", "one")
-        raise BadFile(f"{' and '.join(names)}: {Refusal(told.refusal)}: {has}; docs/BOARD.md tells how to make several files of {of}")
+        raise BadFile(f"{' and '.join(names)}: {Refusal(told.refusal)}: {too_many(list(map(len, lists)))}")
     return board
+
+
+def too_many(counts):
+    """How many records there are, and what to do about it."""
+    if len(counts) == 1:
+        return f"it has {counts[0]}; docs/BOARD.md tells how to make several files of it"
+    return f"they have {counts[0]} and {counts[1]}, {sum(counts) - MOST_LOTS} too many"
 
 
 def greeting(board, house, names):
@@ -133,7 +141,7 @@ def greeting(board, house, names):
     if house is None and len(names) == 1:
         return f"{names[0]}: {counted(len(board), 'lot')}"
     files = dict(zip(HOUSES, names))
-    return "; ".join(lots_of_house(board, each, files.get(each, "no file")) for each in ([house] if house else HOUSES))
+    return "; ".join(lots_of_house(board, each, files[each]) for each in ([house] if house else HOUSES))
 
 
 def lots_of_house(board, house, name):
@@ -144,10 +152,12 @@ def lots_of_house(board, house, name):
 
 
 class Session:
-    """A board, the house in whose name all commands are made, None where a line may name it, and the answers that are not written yet."""
+    """A board, the house in whose name all commands are made, None where a line may name it, and must where the board is shared, and the
+    answers that are not written yet."""
 
-    def __init__(self, board, house, is_typed):
-        self.board, self.house, self.is_typed, self.status, self.held, self.length = board, house, is_typed, ANSWERED, [], 0
+    def __init__(self, board, house, is_shared, is_typed):
+        self.board, self.house, self.is_shared, self.is_typed = board, house, is_shared and house is None, is_typed
+        self.status, self.held, self.length = ANSWERED, [], 0
 
     def run(self):
         """Answers standard input to its end and returns the exit status."""
@@ -161,8 +171,8 @@ class Session:
     def run_line(self, number, line):
         try:
             if words := words_of(line.removeprefix(codecs.BOM_UTF8) if number == 1 else line):
-                party, words = party_of(self.house, words)
-                name, *numbers = command_of(words)
+                party, words = party_of(self.house, self.is_shared, words)
+                name, *numbers = command_of(words, ", each after ours or partner" if self.is_shared else "")
                 getattr(self, name)(party, *numbers)
         except NotUnderstood as error:
             self.status = FAILED
@@ -186,7 +196,7 @@ class Session:
         self.answer(f"0 lots {len(places)}\n")
 
     def help(self, party):
-        self.answer(HELP)
+        self.answer(help_for(self.house, self.is_shared))
 
     def tell(self, told, answer):
         """Answers a command by this line, or by its refusal, which is said in words too to a person who types."""
@@ -209,6 +219,15 @@ class Session:
         """Says something after the answer that it is about."""
         self.write_held()
         say(text)
+
+
+def help_for(house, is_shared):
+    """The lines of `help`, by whose the commands of the run are."""
+    if is_shared:
+        houses = "A command but help begins with the house in whose name it is made, ours or partner, as in partner read 3.\n"
+    else:
+        houses = f"Every command is {OWNED[house or 'ours']}.\n"
+    return HELP.format(houses=houses)
 
 
 def refused(told):
@@ -247,10 +266,12 @@ def words_of(line):
     return [word.decode("utf-8", "replace") for word in re.split(rb"[ \t]+", line.removesuffix(b"\r")) if word]
 
 
-def party_of(house, words):
+def party_of(house, is_shared, words):
     """The party that makes a command, and the words without its name."""
     named, *others = words
     if named not in HOUSES:
+        if is_shared and named in TAKEN and named != "help":
+            raise NotUnderstood(f"{named} names no house, and two share the board: begin with ours or partner, as in ours {' '.join(words)}")
         return HOUSES[house or "ours"], words
     if house is not None:
         raise NotUnderstood(f"'{named}' names a house, and with --party {house} every command is {OWNED[house]}: leave the word out")
@@ -259,16 +280,17 @@ def party_of(house, words):
     return HOUSES[named], others
 
 
-def command_of(words):
-    """The name and the numbers of a command."""
+def command_of(words, houses):
+    """The name and the numbers of a command; `houses` says where a house is to be named."""
     name, *others = words
     if name not in TAKEN:
-        raise NoSuchCommand(f"{shown(name)} is not a command: there are {', '.join(TAKEN)}")
+        raise NoSuchCommand(f"{shown(name)} is not a command: there are {', '.join(TAKEN)}{houses}")
     taken, example = TAKEN[name], f", as in {EXAMPLES[name]}" if name in EXAMPLES else ""
     if len(others) != len(taken):
-        comment = "; a comment has a line of its own" if any(word.startswith("#") for word in others) else ""
+        hint = "; a comment has a line of its own" if any(word.startswith("#") for word in others) else ""
+        hint = "; a house is named before the command" if HOUSES.keys() & set(others) else hint
         raise NotUnderstood(f"{name} takes {len(taken) or 'no'} word{'s' if len(taken) != 1 else ''} after it and here has "
-                            f"{len(others) or 'none'}: {' '.join((name, *taken))}{example}{comment}")
+                            f"{len(others) or 'none'}: {' '.join((name, *taken))}{example}{hint}")
     return name, *(number_of(word, text, example) for word, text in zip(taken, others))
 
 

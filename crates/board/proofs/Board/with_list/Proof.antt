@@ -8,7 +8,6 @@ use borrow.Author.Needs.{needs}
 use Rattle.records.specs.declared.fields.Record.{Record}
 use Rattle.records.specs.Columns.{columns, listOf}
 use Rattle.records.specs.ColumnsLaws.{length-list}
-use Rattle.board.specs.declared.Lot.{Lot}
 use Rattle.board.specs.declared.Board.{Board}
 use Rattle.board.specs.Table.{mostLots}
 use Rattle.board.specs.Boards.{tableOf}
