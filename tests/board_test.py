@@ -3,15 +3,14 @@ the second program. abi_test.py runs it."""
 
 import copy
 import itertools
-import os
 import pickle
 import subprocess
-import sys
 import tempfile
 from pathlib import Path
 
 import board_table
 import cradlekeel
+import older_library
 import record_cases
 import record_files
 from board_lines import calls_of, cut, other_than, party_of
@@ -358,19 +357,9 @@ def check_copies():
         assert copy.copy(board) == board
 
 
-OLDER_LIBRARY = """
-#include <stddef.h>
-struct done { size_t count; unsigned char refusal; };
-struct done ck_write_records(const void *u, size_t us, const void *v, size_t vs, const void *p, size_t ps, const void *l, size_t ls,
-                             const void *h, size_t hs, const void *d, size_t ds, const void *s, size_t ss, const void *c, size_t cs,
-                             unsigned char *file, size_t room) {
-    struct done done = {8, 0};
-    for (size_t i = 0; i < room && i < 8; i++) file[i] = i == 0 ? 20 : 0;
-    return done;
-}
+OLDER_BOARDS = """
 struct answer { size_t count; unsigned char rest[2088]; };
-struct answer ck_board_load(const void *u, size_t us, const void *v, size_t vs, const void *p, size_t ps, const void *l, size_t ls,
-                            const void *h, size_t hs, const void *d, size_t ds, const void *s, size_t ss, const void *c, size_t cs) {
+struct answer ck_board_load(%s) {
     struct answer answer = {us, {0}};
     return answer;
 }
@@ -382,16 +371,10 @@ ASKED = "Board.load([])", "Board().read(0, 0)", "Board().assign(0, 0, 0, 0)"
 
 def check_older_library():
     """A library whose boards are one house's is told of, and no board goes to it; records do."""
-    with tempfile.TemporaryDirectory() as folder:
-        source, library = Path(folder) / "older.c", Path(folder) / "older.so"
-        source.write_text(OLDER_LIBRARY)
-        subprocess.run(["gcc", "-shared", "-fPIC", source, "-o", library], check=True)
-        variables = {**os.environ, "PYTHONPATH": str(ROOT / "python"), "CRADLEKEEL_LIBRARY": str(library)}
-        for call in (*ASKED, "to_bytes([])"):
-            words = [sys.executable, "-B", "-c", f"import cradlekeel; cradlekeel.{call}"]
-            ran = subprocess.run(words, env=variables, capture_output=True, text=True)
-            told = f"{library} has boards of one house: it is older than this package" in ran.stderr
-            assert (ran.returncode, told) == ((1, True) if call in ASKED else (0, False)), ran
+    source = older_library.writer_of(record_files.WRITTEN) + OLDER_BOARDS % older_library.COLUMNS
+    for call, library, ran in older_library.asked(source, (*ASKED, "to_bytes([])")):
+        told = f"{library} has boards of one house: it is older than this package" in ran.stderr
+        assert (ran.returncode, told) == ((1, True) if call in ASKED else (0, False)), ran
 
 
 # --- examples/board.c -------------------------------------------------------------------------------------------------

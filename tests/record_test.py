@@ -3,10 +3,8 @@ examples/records.c, all against the second program. abi_test.py runs it."""
 
 import array
 import mmap
-import os
 import re
 import subprocess
-import sys
 import tempfile
 from collections import Counter
 from functools import lru_cache
@@ -14,6 +12,7 @@ from itertools import product
 from pathlib import Path
 
 import cradlekeel
+import older_library
 import record_cases
 import record_files
 import reference as ref
@@ -282,32 +281,14 @@ def check_earlier_files():
             assert cradlekeel.to_bytes(read) == file_of(records[:count]) and cradlekeel.read_records(cradlekeel.to_bytes(read)) == read
 
 
-OLDER_LIBRARY = """
-#include <stddef.h>
-struct done { size_t count; unsigned char refusal; };
-struct done ck_write_records(const void *u, size_t us, const void *v, size_t vs, const void *p, size_t ps, const void *l, size_t ls,
-                             const void *h, size_t hs, const void *d, size_t ds, const void *s, size_t ss, const void *c, size_t cs,
-                             unsigned char *file, size_t room) {
-    struct done done = {8, 0};
-    for (size_t i = 0; i < room && i < 8; i++) file[i] = i == 0 ? 18 : 0;
-    return done;
-}
-void ck_read_micro(void) {}
-"""
 ASKED = "to_bytes([])", "read_micro(219300, 327100)"
 
 
 def check_older_library():
     """A library that writes records of 18 bytes, as it did before, is told of, and neither records nor readings go to it."""
-    with tempfile.TemporaryDirectory() as folder:
-        source, library = Path(folder) / "older.c", Path(folder) / "older.so"
-        source.write_text(OLDER_LIBRARY)
-        subprocess.run(["gcc", "-shared", "-fPIC", source, "-o", library], check=True)
-        variables = {**os.environ, "PYTHONPATH": str(ROOT / "python"), "CRADLEKEEL_LIBRARY": str(library)}
-        for call in ASKED:
-            ran = subprocess.run([sys.executable, "-B", "-c", f"import cradlekeel; cradlekeel.{call}"], env=variables, capture_output=True, text=True)
-            assert ran.returncode == 1 and f"{library} writes records of 18 bytes: it is older than this package" in ran.stderr, ran
-            assert "CRADLEKEEL_LIBRARY names it" in ran.stderr, ran
+    for _, library, ran in older_library.asked(older_library.writer_of(EARLIER) + "void ck_read_micro(void) {}", ASKED):
+        assert ran.returncode == 1 and f"{library} writes records of 18 bytes: it is older than this package" in ran.stderr, ran
+        assert "CRADLEKEEL_LIBRARY names it" in ran.stderr, ran
 
 
 def check_records_of_answers():
