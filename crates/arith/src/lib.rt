@@ -1,4 +1,6 @@
 // Whole-number arithmetic: the lesser number, the rounded quotient, the square root and the magnitude.
+#![tactic(auto)]
+
 ghost use Rattle.std.specs.Prelude.{◌≡◌, ◌+◌, ◌*◌, ◌^◌, ◌≤◌, ◌<◌, min, nat_abs};
 ghost use Rattle.arith.specs.Rounding.{nearest_quotient};
 ghost use Rattle.arith.specs.Root.{root};

@@ -1,4 +1,6 @@
 // The refusals of document 01, "Numbers given instead of an answer", and of document 02, each under a name.
+#![tactic(auto)]
+
 ghost use Rattle.std.specs.Prelude.{◌≡◌};
 ghost use Rattle.refusal.specs.Number.{number_of};
 
