@@ -4,7 +4,7 @@ use mathlib.Core.Bool.{false≢true}
 use lib.Pow.{pow-lt}
 use lib.Ieee.{Float, Format, nan, inf, fin, binary32, binary64, prec, up, down, round, mul, of_int, fits, is_nan}
 use lib.Ieee.Digits.{back}
-use lib.Ieee.Fits.{up_pos, down_pos}
+use lib.Ieee.Fits.{up_pos, down_pos, and_i, fits_widens}
 use lib.Ieee.Exact.{HasValue, round_exact}
 use lib.Ieee.Back.{round_whole}
 use lib.Ieee.Scale.{finite, round_same}
@@ -93,11 +93,15 @@ product s m e (fin true n d) N f h v = absurd (true≢false v.0)
 product true m e (fin false n d) N f h v = finite_product true m e n d N (small true m e f) h (sym (mul-one (n * up d)) ∙ v.1)
 product false m e (fin false n d) N f h v = finite_product false m e n d N (small false m e f) h (sym (mul-one (n * up d)) ∙ v.1)
 
-pub no_nan : (x : Float) → finite x ≡ true → T (not (is_nan x))
+no_nan : (x : Float) → finite x ≡ true → T (not (is_nan x))
 unfolding is_nan
 no_nan nan h = absurd (false≢true h)
 no_nan (inf s) h = tt
 no_nan (fin s m e) h = tt
+
+-- an f32 that is no NaN is an f64 too
+pub widened : (x : Float) → T (fits binary32 x) → finite x ≡ true → T (fits binary64 x && not (is_nan x))
+widened x f h = and_i (fits binary64 x) (not (is_nan x)) (fits_widens x f) (no_nan x h)
 
 pub product_exact : (x : Float) (n : ℕ) → T (fits binary32 x) → finite x ≡ true → n ≤ 2 ^ 29 → IsProduct x n (mul binary64 x (of_int binary64 (pos n)))
 product_exact nan n f h l = absurd (false≢true h)

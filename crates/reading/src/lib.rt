@@ -1,4 +1,6 @@
 // Readings, and the CIE 1960 u and v that each comes to, in micro (document 01, "Readings").
+#![tactic(auto)]
+
 ghost use Rattle.std.specs.Prelude.{◌≡◌, ◌*◌, ◌^◌, ◌<◌, ◌≤◌, true};
 ghost use Rattle.std.specs.Float.Ieee.Scale.{finite};
 ghost use Rattle.arith.specs.Units.{micro};
@@ -9,7 +11,7 @@ ghost use Rattle.reading.specs.Convert.{point_over, of_uv, of_uv_prime, of_xy, o
 use refusal::Refusal;
 
 // A reading of one of the four kinds.
-#[derive(Drop)]
+#[derive(Clone, Copy)]
 pub enum Reading {
     // CIE 1960 u, v
     Uv(f32, f32),
@@ -22,14 +24,14 @@ pub enum Reading {
 }
 
 // What a reading comes to: u and v in micro, or why there is none.
-#[derive(Drop)]
+#[derive(Clone, Copy)]
 pub enum Converted {
     Point(u32, u32),
     Refused(Refusal),
 }
 
 // What a float measures: how many of its units make 1, and the bound that it stays below.
-#[derive(Drop)]
+#[derive(Clone, Copy)]
 struct Quantity {
     scale: u32,
     bound: u16,
@@ -90,7 +92,7 @@ fn is_in_range(x: f32, quantity: Quantity) -> bool
 // floor(x * scale + 1/2), as half of one more than 2 * x * scale cut towards zero.
 fn to_whole(x: f32, quantity: Quantity) -> u32
     requires scale_bound { quantity.scale ≤ 2 ^ 28 }
-    requires scale_bound_2 { quantity.bound * quantity.scale < 2 ^ 32 }
+    requires whole_bound { quantity.bound * quantity.scale < 2 ^ 32 }
     requires x_value { in_range quantity x ≡ true }
     ensures { result ≡ to_whole quantity x }
 {
