@@ -1,4 +1,6 @@
 // The class edges that the caller lends, and the class of a bracket with its best point (document 01's "shelf classes").
+#![tactic(auto)]
+
 ghost use Rattle.std.specs.Prelude.{◌≡◌, ◌&&◌, ◌-◌, min, max};
 ghost use Rattle.classes.specs.Edges.{is_edge, edges_valid};
 ghost use Rattle.classes.specs.Classes.{no_class, at_least, below, class_of};
@@ -19,7 +21,7 @@ fn in_range(edge: u32) -> bool
 // Whether the edges meet refusal 1's rule: 2 to 32, strictly rising, each from 1600 to 20001.
 pub fn edges_valid(edges: &[u32]) -> bool
     ensures valid { result ≡ edges_valid edges.now }
-    ensures unchanged { edges.now ≡ edges.now }
+    ensures unchanged { edges.exit.now ≡ edges.entry.now }
 {
     let n = edges.len();
     if n < 2 || 32 < n {
@@ -75,7 +77,7 @@ fn class_count(edges: usize) -> usize
 // The class that holds the bracket's ends and its best point, otherwise 255.
 pub fn class_of(edges: &[u32], low: u32, high: u32, best: u32) -> u8
     ensures class { result ≡ class_of edges.now low high best }
-    ensures unchanged { edges.now ≡ edges.now }
+    ensures unchanged { edges.exit.now ≡ edges.entry.now }
 {
     let hottest = lesser(lesser(low, high), best);
     let coolest = greater(greater(low, high), best);

@@ -1,0 +1,15 @@
+use mathlib.Core.Path.{◌≡◌, refl, sym, ap, ◌∙◌}
+use mathlib.Core.Logic.{⊎_elim}
+use Prim.Native.Nat.{◌-◌, ◌≤◌}
+use native.Mathlib.Omega.{arith}
+use borrow.Author.Rules.{rules}
+use Rattle.classes.specs.Classes.{holds_all, last_passing, class_count}
+use Rattle.classes.specs.ClassLaws.{last_next}
+use Rattle.classes.proofs.Ends.{holds_ends}
+use Rattle.classes.proofs.class_of.Given as goal
+
+abbrev pub invariant-loop-k : goal.invariant-loop-k
+invariant-loop-k l = (l.k ≤ l.count) × (l.named ≡ last_passing (holds_all l.edges l.low l.high l.best) l.k)
+
+abbrev pub decreases-loop-k : goal.decreases-loop-k
+decreases-loop-k l = l.count - l.k

@@ -1,0 +1,18 @@
+use mathlib.Core.Path.{◌≡◌, refl, sym}
+use mathlib.Core.Bool.{and-false}
+use mathlib.Core.Logic.{⊎_elim}
+use Prim.Native.Nat.{◌-◌, ◌≤◌}
+use native.Mathlib.Omega.{arith}
+use lib.ListN.{length, take}
+use borrow.Author.Rules.{rules}
+use borrow.Author.Tests.{lt-leb, ltb-true, ltb-false}
+use Rattle.arith.specs.Every.{every}
+use Rattle.classes.specs.Edges.{neighbours, rises, is_edge, edges_valid}
+use Rattle.classes.specs.EdgeLaws.{rises_next, fits_next, valid_ends}
+use Rattle.classes.proofs.edges_valid.Given as goal
+
+abbrev pub invariant-loop-k : goal.invariant-loop-k
+invariant-loop-k l = (l.k ≤ length l.edges - 1) × (l.rising ≡ every rises (take l.k (neighbours l.edges))) × (l.fitting ≡ every is_edge (take l.k l.edges))
+
+abbrev pub decreases-loop-k : goal.decreases-loop-k
+decreases-loop-k l = length l.edges - l.k
