@@ -1,5 +1,5 @@
 -- The numbers by which a curve is followed near its middle entry are small, and its numerator there is at least half of the denominator.
-use Rattle.std.specs.Prelude.{◌≡◌, ◌/◌, ◌≤◌, ℤ, pos, nat_abs, ◌+ℤ◌, ◌-ℤ◌, ◌*ℤ◌}
+use Rattle.std.specs.Prelude.{◌≡◌, ◌≤◌, ℤ, pos, nat_abs, ◌+ℤ◌, ◌-ℤ◌, ◌*ℤ◌}
 use Rattle.std.proofs.Common.{ap, sym, ◌∙◌, arith}
 use Rattle.std.specs.Int.Signed.{lt_z}
 use Rattle.std.specs.Int.{w64}
@@ -7,7 +7,6 @@ use Rattle.arith.specs.TestLaws.{cond_both}
 use Rattle.arith.specs.IntegerLaws.{AtLeast, sum_at_least}
 use Rattle.arith.specs.SignedLaws.{read, Kept, kept, kept_read, kept_sum, kept_product, kept_less}
 use Rattle.locus.specs.Stored.{piece_length}
-use Rattle.locus.specs.Locus.{denominator}
 use Rattle.locus.specs.Code.Bounds.{far_out}
 use Rattle.locus.specs.Code.Fits.{CurveFits}
 use Rattle.locus.specs.Code.Pieces.{half, third_difference_at, numerator, curve_at}

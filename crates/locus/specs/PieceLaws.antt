@@ -1,18 +1,18 @@
 -- The code's curves give the locus: about each entry one quadratic and two third differences make up the cubics of its two pieces.
-use Rattle.std.specs.Prelude.{◌≡◌, Bool, cond, List, T, ltb, ℤ, nat_abs, ◌+ℤ◌, ◌-ℤ◌, ◌*ℤ◌}
+use Rattle.std.specs.Prelude.{◌≡◌, Bool, cond, List, T, ltb, ℤ, nat_abs, ◌-ℤ◌, ◌*ℤ◌}
 use Rattle.std.proofs.Math.Path.{refl}
-use Rattle.std.proofs.Common.{ap, sym, ◌∙◌, ⊎_elim, eq-or-lt_of_le}
+use Rattle.std.proofs.Common.{ap, ⊎_elim, eq-or-lt_of_le}
 use Rattle.std.proofs.Math.Bool.{true, false}
-use Prim.Native.Nat.{ℕ, ◌+◌, ◌-◌, ◌*◌, ◌/◌, ◌≤◌, ◌<◌, max}
+use Prim.Native.Nat.{ℕ, ◌+◌, ◌-◌, ◌*◌, ◌/◌, ◌≤◌, max}
 use native.Mathlib.Omega.{arith}
 use Rattle.std.proofs.Math.IntN.{pos}
-use Rattle.std.specs.Int.Signed.{lt_z, non_neg}
+use Rattle.std.specs.Int.Signed.{non_neg}
 use borrow.Author.Tests.{ltb-true, ltb-false}
 use Rattle.arith.specs.Rounding.{nearest_quotient}
 use Rattle.arith.specs.IntegerLaws.{Is, is_number, is_gap, is_sum, is_difference, is_product, is_also, is_nonneg, below_zero, abs_whole, gap_within, abs_product, at_least_is}
 use Rattle.locus.specs.Stored.{table_u, table_v, entry_in, entry_u, entry_v, piece_length, entry_place, first_place, last_place, first_entry, last_entry}
 use Rattle.locus.specs.StoredLaws.{steady_u, steady_v}
-use Rattle.locus.specs.Locus.{piece_of, first_of_four, denominator, cubic, between, locus_at}
+use Rattle.locus.specs.Locus.{piece_of, first_of_four, denominator, between, locus_at}
 use Rattle.locus.specs.LocusLaws.{plus, minus, cubic_is, pieces_meet}
 use Rattle.locus.specs.Code.Bounds.{far_out}
 use Rattle.locus.specs.Code.Fits.{Steady, CurveFits}

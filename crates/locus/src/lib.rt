@@ -1,4 +1,6 @@
 // The stored blackbody locus, the distance of a reading from it, and whether a reading is near enough to be answered.
+#![tactic(auto)]
+
 mod tables;
 
 ghost use Rattle.std.specs.Prelude.{◌≡◌, ◌+◌, ◌*◌, ◌≤◌, ◌<◌, min, max, pos, nat_abs, ◌-ℤ◌};
@@ -37,14 +39,14 @@ const FAR_OUT: u32 = 4000000;
 const LIMIT: u64 = 2500000000;
 
 // A point of the CIE 1960 diagram. One unit of u and v is document 01's "micro", 0.000001.
-#[derive(Drop)]
+#[derive(Clone, Copy)]
 pub struct Chromaticity {
     pub u: u32,
     pub v: u32,
 }
 
 // The nearest entry, from 1 to 24, with its squared distance, or the refusal 5, 6 or 7.
-#[derive(Drop)]
+#[derive(Clone, Copy)]
 pub enum Admission {
     Near(u32, u64),
     Refused(Refusal),
@@ -93,7 +95,7 @@ fn signed_difference(x: u32, y: u32) -> i64
 // One coordinate of the locus on both sides of a middle entry. At t places past that entry it is
 // (a + t * (b + t * c + (t * t - PIECE_SQUARED) * d)) / DENOMINATOR, where d is `left` before the entry and `right` from it on.
 // The quadratic goes through the entry and its two neighbours, where the rest is 0; the half that rounds is in a.
-#[derive(Drop)]
+#[derive(Clone, Copy)]
 struct Curve {
     a: i64,
     b: i64,
@@ -209,7 +211,7 @@ fn squared_distance(u: u32, v: u32, x: u32, y: u32) -> u64
 }
 
 // An entry with its squared distance from a reading.
-#[derive(Drop)]
+#[derive(Clone, Copy)]
 struct Nearest {
     entry: u32,
     distance: u64,
@@ -298,7 +300,7 @@ fn admit_near(us: &[u32; 24], vs: &[u32; 24], u: u32, v: u32) -> Admission
 pub fn admit(us: &[u32; 24], vs: &[u32; 24], u: u32, v: u32) -> Admission
     requires { (us.now ≡ table_u) × (vs.now ≡ table_v) }
     ensures answers { result ≡ admission u v }
-    ensures unchanged { (us.now ≡ us.now) × (vs.now ≡ vs.now) }
+    ensures unchanged { (us.exit.now ≡ us.entry.now) × (vs.exit.now ≡ vs.entry.now) }
 {
     if FAR_OUT < u {
         return Admission::Refused(Refusal::TooFar);
@@ -310,7 +312,7 @@ pub fn admit(us: &[u32; 24], vs: &[u32; 24], u: u32, v: u32) -> Admission
 }
 
 // The locus from the place `from` to the place `to`: a curve for each coordinate, in the places past the middle entry, which is at `mid`.
-#[derive(Drop)]
+#[derive(Clone, Copy)]
 pub struct Span {
     pub from: u32,
     mid: u32,
@@ -347,7 +349,7 @@ fn middle_entry(m: u32) -> u32
 pub fn span_about(us: &[u32; 24], vs: &[u32; 24], m: u32) -> Span
     requires { (us.now ≡ table_u) × (vs.now ≡ table_v) × (1 ≤ m) × (m ≤ 24) }
     ensures answers { result ≡ span_about m }
-    ensures unchanged { (us.now ≡ us.now) × (vs.now ≡ vs.now) }
+    ensures unchanged { (us.exit.now ≡ us.entry.now) × (vs.exit.now ≡ vs.entry.now) }
 {
     let middle = middle_entry(m);
     let u = curve_about(us, middle);
@@ -385,7 +387,7 @@ pub fn distance_on(span: Span, u: u32, v: u32, place: u32) -> u64
 pub fn point_at(us: &[u32; 24], vs: &[u32; 24], place: u32) -> Chromaticity
     requires { (us.now ≡ table_u) × (vs.now ≡ table_v) × (first_place ≤ place) × (place ≤ last_place) }
     ensures answers { result ≡ locus_point place }
-    ensures unchanged { (us.now ≡ us.now) × (vs.now ≡ vs.now) }
+    ensures unchanged { (us.exit.now ≡ us.entry.now) × (vs.exit.now ≡ vs.entry.now) }
 {
     let entry = place / PIECE_LENGTH - 1;
     let span = span_about(us, vs, entry);

@@ -1,4 +1,6 @@
 // Golden-section search for the place of the locus nearest to a reading (document 01, "The search", rules 2 to 6).
+#![tactic(auto)]
+
 ghost use Rattle.std.specs.Prelude.{◌≡◌, cond, ◌≤◌, ltb};
 ghost use Rattle.locus.specs.declared.Admission.TheVariants.{Near};
 ghost use Rattle.locus.specs.Locus.{distance_at};
@@ -19,7 +21,7 @@ const MOST_STEPS: u32 = 14;
 
 // What a search has found: its bracket, its best point (document 01's "nearest point seen"), that point's squared distance, and the
 // number of steps.
-#[derive(Drop)]
+#[derive(Clone, Copy)]
 pub struct Search {
     pub low: u32,
     pub high: u32,
@@ -30,7 +32,7 @@ pub struct Search {
 
 // A search under way. The bracket starts at `low`; its inner points are `long` from its two ends and `short` from each other.
 // `left` and `right` are the distances at the inner points, `least` the distance at the best point.
-#[derive(Drop)]
+#[derive(Clone, Copy)]
 struct Progress {
     low: u32,
     long: u32,

@@ -1,0 +1,16 @@
+use mathlib.Core.Path.{refl, sym, ◌∙◌}
+use native.Mathlib.Omega.{arith}
+use Rattle.locus.specs.Locus.{distance_at}
+use Rattle.locus.specs.LocusLaws.{entry_distance_lem}
+use Rattle.search.proofs.Moves.{begun}
+use Rattle.search.proofs.begin.Goals as goal
+
+pub returns : goal.returns
+returns c =
+    let a = c.args in
+    let h = c.requires in
+    let n = h.admitted in
+    begun (distance_at a.u a.v) a.entry _ n.first n.last h.from (omega arith) (omega arith) refl refl
+    (n.distance ∙ sym (entry_distance_lem a.u a.v a.entry n.first n.last))
+    c.distance_on-left.ensures c.distance_on-right.ensures
+    c.choose_place-best.ensures c.choose-least.ensures c.choose_place.ensures c.choose.ensures

@@ -1,0 +1,12 @@
+use lib.Dec.{ltb}
+use Rattle.locus.specs.Locus.{distance_at}
+use Rattle.search.proofs.Moves.{moves}
+use Rattle.search.proofs.step.Goals as goal
+
+pub returns : goal.returns
+returns c =
+    let a = c.args in
+    moves (ltb a.s.left a.s.right) (distance_at a.u a.v) a.s
+    c.distance_on-at_new_low.ensures c.distance_on-at_new_high.ensures
+    c.choose_place.ensures c.choose_place-place.ensures c.choose-distance.ensures
+    c.choose.ensures c.choose-2.ensures c.choose_place-2.ensures c.choose-3.ensures
