@@ -1,11 +1,10 @@
 -- The scan of the ready table goes on as `least_of` does, and ends with the nearest ready place.
 use Rattle.std.specs.Prelude.{◌≡◌, refl, Bool, true, false, cond, ℕ, zero, suc, ◌+◌, ◌*◌, ◌-◌, ◌≤◌, ◌<◌, ltb}
-use Rattle.std.proofs.Common.{sym, ap, ◌∙◌, le_of_suc-le-suc, add-one, arith, lt-ltb, le-ltb}
+use Rattle.std.proofs.Common.{ap, add-one, arith, lt-ltb, le-ltb}
 use Rattle.arith.specs.Least.{least_of}
 use Rattle.arith.specs.LeastLaws.{Least, least, least_only}
 use Rattle.locus.specs.declared.Admission.TheVariants.{Near}
 use Rattle.locus.specs.Stored.{entry_place}
-use Rattle.locus.specs.Locus.{distance_at}
 use Rattle.locus.specs.LocusLaws.{entry_distance_lem}
 use Rattle.locus.specs.Admission.{admission}
 use Rattle.locus.specs.AdmissionLaws.{admitted_near}

@@ -1,4 +1,6 @@
 // The ready table, u and v of the locus at every 38th place, and the nearest of its points to a reading.
+#![tactic(auto)]
+
 mod points;
 
 ghost use Rattle.std.specs.Prelude.{◌≡◌, ◌≤◌};
@@ -24,7 +26,7 @@ pub fn ready_table() -> [u32; 3130]
 }
 
 // A ready point by one more than its number, with its squared distance from a reading; 0 stands for none.
-#[derive(Drop)]
+#[derive(Clone, Copy)]
 struct Nearest {
     next: usize,
     distance: u64,
@@ -53,7 +55,7 @@ fn nearer(table: &[u32; 3130], u: u32, v: u32, kept: Nearest, k: usize) -> Neare
 pub fn nearest_ready(table: &[u32; 3130], u: u32, v: u32, near: u64) -> u32
     requires { (table.now ≡ ready_table) × (u ≤ far_out) × (v ≤ far_out) × (near ≤ limit) × Within u v near }
     ensures answers { result ≡ nearest_ready u v }
-    ensures unchanged { table.now ≡ table.now }
+    ensures unchanged { table.exit.now ≡ table.entry.now }
 {
     let mut kept = Nearest {
         next: 0,
