@@ -1,4 +1,6 @@
 // Correlated colour temperature, Duv and class of a colour reading, as whole numbers and as floats.
+#![tactic(auto)]
+
 ghost use Rattle.std.specs.Prelude.{◌≡◌, cond, ◌<◌, leb, pos, neg_ℤ};
 ghost use Rattle.reading.specs.Convert.{convert_reading, convert_micro};
 ghost use Rattle.spectral.specs.Samples.{convert_samples};
@@ -14,7 +16,7 @@ use refusal::Refusal;
 
 // The whole-number answer. A refused one has its number and zeros in every other field.
 #[repr(C)]
-#[derive(Drop)]
+#[derive(Clone, Copy)]
 pub struct Answer {
     // The nearest point of the locus that the search looked at, and the bracket (document 01's [o, p]), in places.
     pub place: u32,
@@ -31,7 +33,7 @@ pub struct Answer {
 
 // The temperature in kelvin and Duv as a coordinate, with the whole-number answer.
 #[repr(C)]
-#[derive(Drop)]
+#[derive(Clone, Copy)]
 pub struct FloatAnswer {
     pub kelvin: f64,
     pub duv: f64,
@@ -117,7 +119,7 @@ fn answer_point(u: u32, v: u32, edges: &[u32], max_steps: u32) -> Answer
 // The whole-number answer to what a reading was converted to.
 pub fn whole_answer_converted(converted: Converted, edges: &[u32], max_steps: u32) -> Answer
     ensures answers { result ≡ answer edges.now converted max_steps }
-    ensures unchanged { edges.now ≡ edges.now }
+    ensures unchanged { edges.exit.now ≡ edges.entry.now }
 {
     if !classes::edges_valid(edges) {
         return refused_answer(Refusal::BadEdges);
@@ -151,7 +153,7 @@ pub fn float_answer(answer: Answer) -> FloatAnswer
 // The answer to what a reading was converted to.
 pub fn answer_converted(converted: Converted, edges: &[u32], max_steps: u32) -> FloatAnswer
     ensures answers { result ≡ float_answer (answer edges.now converted max_steps) }
-    ensures unchanged { edges.now ≡ edges.now }
+    ensures unchanged { edges.exit.now ≡ edges.entry.now }
 {
     let whole = whole_answer_converted(converted, edges, max_steps);
     float_answer(whole)
@@ -160,7 +162,7 @@ pub fn answer_converted(converted: Converted, edges: &[u32], max_steps: u32) -> 
 // The whole-number answer to a reading of any of the four kinds.
 pub fn whole_answer_reading(reading: Reading, edges: &[u32], max_steps: u32) -> Answer
     ensures answers { result ≡ answer edges.now (convert_reading reading) max_steps }
-    ensures unchanged { edges.now ≡ edges.now }
+    ensures unchanged { edges.exit.now ≡ edges.entry.now }
 {
     whole_answer_converted(reading::convert(reading), edges, max_steps)
 }
@@ -168,7 +170,7 @@ pub fn whole_answer_reading(reading: Reading, edges: &[u32], max_steps: u32) -> 
 // The whole-number answer to u and v in micro.
 pub fn whole_answer_micro(u: u32, v: u32, edges: &[u32], max_steps: u32) -> Answer
     ensures answers { result ≡ answer edges.now (convert_micro u v) max_steps }
-    ensures unchanged { edges.now ≡ edges.now }
+    ensures unchanged { edges.exit.now ≡ edges.entry.now }
 {
     whole_answer_converted(reading::convert_micro(u, v), edges, max_steps)
 }
@@ -176,7 +178,7 @@ pub fn whole_answer_micro(u: u32, v: u32, edges: &[u32], max_steps: u32) -> Answ
 // The answer to a reading of any of the four kinds.
 pub fn answer_reading(reading: Reading, edges: &[u32], max_steps: u32) -> FloatAnswer
     ensures answers { result ≡ float_answer (answer edges.now (convert_reading reading) max_steps) }
-    ensures unchanged { edges.now ≡ edges.now }
+    ensures unchanged { edges.exit.now ≡ edges.entry.now }
 {
     answer_converted(reading::convert(reading), edges, max_steps)
 }
@@ -184,7 +186,7 @@ pub fn answer_reading(reading: Reading, edges: &[u32], max_steps: u32) -> FloatA
 // The answer to u and v in micro.
 pub fn answer_micro(u: u32, v: u32, edges: &[u32], max_steps: u32) -> FloatAnswer
     ensures answers { result ≡ float_answer (answer edges.now (convert_micro u v) max_steps) }
-    ensures unchanged { edges.now ≡ edges.now }
+    ensures unchanged { edges.exit.now ≡ edges.entry.now }
 {
     answer_converted(reading::convert_micro(u, v), edges, max_steps)
 }
@@ -199,7 +201,7 @@ pub fn whole_answer_samples(
     max_steps: u32,
 ) -> Answer
     ensures answers { result ≡ answer edges.now (convert_samples samples.now x_bar.now y_bar.now z_bar.now) max_steps }
-    ensures unchanged { (samples.now ≡ samples.now) × (x_bar.now ≡ x_bar.now) × (y_bar.now ≡ y_bar.now) × (z_bar.now ≡ z_bar.now) × (edges.now ≡ edges.now) }
+    ensures unchanged { (samples.exit.now ≡ samples.entry.now) × (x_bar.exit.now ≡ x_bar.entry.now) × (y_bar.exit.now ≡ y_bar.entry.now) × (z_bar.exit.now ≡ z_bar.entry.now) × (edges.exit.now ≡ edges.entry.now) }
 {
     let converted = spectral::convert_samples(samples, x_bar, y_bar, z_bar);
     whole_answer_converted(converted, edges, max_steps)
@@ -215,7 +217,7 @@ pub fn answer_samples(
     max_steps: u32,
 ) -> FloatAnswer
     ensures answers { result ≡ float_answer (answer edges.now (convert_samples samples.now x_bar.now y_bar.now z_bar.now) max_steps) }
-    ensures unchanged { (samples.now ≡ samples.now) × (x_bar.now ≡ x_bar.now) × (y_bar.now ≡ y_bar.now) × (z_bar.now ≡ z_bar.now) × (edges.now ≡ edges.now) }
+    ensures unchanged { (samples.exit.now ≡ samples.entry.now) × (x_bar.exit.now ≡ x_bar.entry.now) × (y_bar.exit.now ≡ y_bar.entry.now) × (z_bar.exit.now ≡ z_bar.entry.now) × (edges.exit.now ≡ edges.entry.now) }
 {
     let whole = whole_answer_samples(samples, x_bar, y_bar, z_bar, edges, max_steps);
     float_answer(whole)

@@ -1,4 +1,6 @@
 // Spectral samples, and the CIE 1960 u and v that they come to, in micro (document 02, No. 1).
+#![tactic(auto)]
+
 ghost use Rattle.std.specs.Prelude.{◌≡◌, ◌*◌, max};
 ghost use Rattle.spectral.specs.Samples.{lengths_good, all_at_most, limits_good, sums, shift_of, divided, of_divided, convert_samples};
 ghost use Rattle.spectral.specs.Conditions.{Sound};
@@ -7,7 +9,7 @@ use reading::Converted;
 use refusal::Refusal;
 
 // X, Y and Z: the sums of products, or what is left of them after a division.
-#[derive(Drop)]
+#[derive(Clone, Copy)]
 struct Tristimulus {
     x: u64,
     y: u64,
@@ -121,7 +123,7 @@ fn of_sums(sums: Tristimulus) -> Converted
 // What spectral samples come to with the observer's three tables.
 pub fn convert_samples(samples: &[u32], x_bar: &[u32], y_bar: &[u32], z_bar: &[u32]) -> Converted
     ensures converts { result ≡ convert_samples samples.now x_bar.now y_bar.now z_bar.now }
-    ensures unchanged { (samples.now ≡ samples.now) × (x_bar.now ≡ x_bar.now) × (y_bar.now ≡ y_bar.now) × (z_bar.now ≡ z_bar.now) }
+    ensures unchanged { (samples.exit.now ≡ samples.entry.now) × (x_bar.exit.now ≡ x_bar.entry.now) × (y_bar.exit.now ≡ y_bar.entry.now) × (z_bar.exit.now ≡ z_bar.entry.now) }
 {
     if !lengths_good(samples, x_bar, y_bar, z_bar) {
         return Converted::Refused(Refusal::BadLengths);

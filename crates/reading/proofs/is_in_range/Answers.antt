@@ -1,3 +1,4 @@
+-- `is_in_range` meets its contract: on each side of zero the comparison is the definition's test, since product and bound are exact.
 use Rattle.std.proofs.Common.{pos, arith}
 use lib.Ieee.{of_bits, neg, of_int, binary32}
 use Rattle.reading.proofs.Range.{below_zero_same, from_zero_same}

@@ -1,4 +1,4 @@
--- `of_coordinates` meets its contract: each branch is one case of the definition.
+-- `of_coordinates` meets its contract: its two tests are those of `judged`, over the whole reading.
 use Rattle.std.proofs.Common.{sym, ◌∙◌}
 use Rattle.reading.specs.Convert.{of_coordinates}
 use Rattle.reading.proofs.Checks.{join, passed}

@@ -1,4 +1,4 @@
--- `of_tristimulus` meets its contract: each branch is one case of the definition.
+-- `of_tristimulus` meets its contract: its three tests are refusals 2, 3 and 4 of the definition, in that order.
 use Rattle.std.proofs.Common.{◌<◌, ◌≤◌, sym, ◌∙◌, arith, le-ltb, lt-ltb}
 use Rattle.reading.specs.Whole.{tristimulus, to_whole}
 use Rattle.reading.specs.Convert.{least_y, of_tristimulus}

@@ -1,4 +1,4 @@
--- `to_whole` meets its contract: the exact product is above -1, and half of one more than what it is cut to is the whole number.
+-- `to_whole` meets its contract: the exact product is cut to a whole number of halves, and half of one more is the definition's.
 use Rattle.std.proofs.Common.{ℕ, ◌+◌, ◌/◌, ap, ◌∙◌, arith}
 use Rattle.reading.specs.WholeLaws.{range_finite}
 use Rattle.reading.proofs.Halves.{halves}
