@@ -1,6 +1,6 @@
 """Draws docs/narrowing.svg from what the program prints for one reading at 0 to 14 steps.
 
-    python3 docs/draw_narrowing.py [PROGRAM]     (PROGRAM: target/bin/cradlekeel)
+    python3 docs/draw_narrowing.py [PROGRAM]     (PROGRAM: target/cradlekeel)
 """
 
 import subprocess
@@ -164,7 +164,7 @@ def drawing(rows):
 
 
 def main():
-    rows = printed_rows(sys.argv[1] if sys.argv[1:] else str(ROOT / "target/bin/cradlekeel"))
+    rows = printed_rows(sys.argv[1] if sys.argv[1:] else str(ROOT / "target/cradlekeel"))
     head = (f'<svg xmlns="http://www.w3.org/2000/svg" viewBox="0 0 {WIDTH} {HEIGHT}" width="{WIDTH}" height="{HEIGHT}" '
             'font-family="Helvetica, Arial, sans-serif" role="img">')
     title = "<title>The range of one reading at 0 to 14 steps</title>"

@@ -3,9 +3,9 @@
     python3 tests/check_contracts.py               the crates and docs/TRACE.md
     python3 tests/check_contracts.py --self-test   small texts, each with one fault, which must be found
 
-Of every public function: it has an `ensures`; the result is given by an equation, `r ≡ ..`; it has no `requires`; what is lent by
-`&` is said to be unchanged, in a promise of its own, as one of several joined by `×` or as one of `columns`; what is lent by `&mut`
-is spoken of at `.exit`; docs/TRACE.md names it. Every promise is an equation: of the result, of what `&mut` lends as it is at the
+Of every public function: it has an `ensures`; the result is given by an equation, `result ≡ ..`; it has no `requires`; what is lent
+by `&` is said to be unchanged, `x.exit.now ≡ x.entry.now`, in a promise of its own, as one of several joined by `×` or as one of
+`columns`; what is lent by `&mut` is spoken of as `.new`; docs/TRACE.md names it. Every promise is an equation: of the result, of what `&mut` lends as it is at the
 end, or of what `&` lends as unchanged. Of those of an entry crate also: each parameter is spoken of. What departs from this stands
 below with its reason and must still be needed; a promise that is no equation, and a `requires` of an entry crate, must be, word for
 word, the one that stands here. Of the functions in WITHOUT_MULTIPLY, and of all that they call: no body has a `*`, a `/` or a `%`,
@@ -36,28 +36,27 @@ REQUIRES = {
 }
 
 # Functions of entry crates with a `requires`: all that they require, word for word, and why.
-ENTRY_REQUIRES = {"nearest::coarse_converted": ("⌜ now table ≡ readyTable ⌝", "the table is lent, so that a caller makes it once")}
+ENTRY_REQUIRES = {"nearest::coarse_converted": ("table.now ≡ ready_table", "the table is lent, so that a caller makes it once")}
 
 # Promises that are no equation: whether instead of the result's equation or beside it, the promise, and why it stands.
 INSTEAD, BESIDE = "instead", "beside"
-COLUMNS_GIVEN = ("(columns (now (u .entry)) (now (v .entry)) (now (place .entry)) (now (low .entry)) (now (high .entry)) (now (duv .entry)) "
-                 "(now (steps .entry)) (now (class .entry)))")
+COLUMNS_GIVEN = "(columns u.%s v.%s place.%s low.%s high.%s duv.%s steps.%s class.%s)"
+COLUMNS_LENT, COLUMNS_BEFORE = (COLUMNS_GIVEN.replace("%s", time) for time in ("now", "old"))
 PROMISES = {
-    "cct_c::ck_read_records": (BESIDE, f"λ _. ⌜ FileOfRecords (readOutcome (now (file .entry)) (sizeOf {COLUMNS_GIVEN})) (now (file .entry)) ⌝",
-                               "as of records::read_records"),
-    "cct_c::ck_write_records": (BESIDE, f"λ _. ⌜ ReadsBack (writeOutcome (sizeOf {COLUMNS_GIVEN}) (length (now (file .entry)))) "
-                                f"(listOf {COLUMNS_GIVEN}) ⌝", "as of records::write_records"),
-    "cct_c::ck_salvage": (BESIDE, "λ _. ⌜ KeptBack (salvageOutcome (now (edges .entry)) «record_length» (now (bytes .entry)) (length (now (file .entry))) "
-                          "(length (now (dropped .entry)))) (now (edges .entry)) «record_length» (now (bytes .entry)) ⌝", "as of salvage::salvage"),
-    "records::read_records": (BESIDE, "λ r. ⌜ FileOfRecords r (now (file .entry)) ⌝",
-                              "what `written-read` says of a list of bytes, for the machine's: no hypothesis is left"),
-    "records::write_records": (BESIDE, f"λ r. ⌜ ReadsBack r (listOf {COLUMNS_GIVEN}) ⌝",
-                               "what `read-written` says of a list of records, for the machine's numbers: no hypothesis is left"),
-    "salvage::salvage": (BESIDE, "λ r. ⌜ KeptBack r (now (edges .entry)) «record_length» (now (bytes .entry)) ⌝",
-                         "what `kept-back` says of a list of bytes, for the machine's: no hypothesis is left"),
-    "text::block": (INSTEAD, "λ r. ⌜ Blocked scan (now (input .entry)) (now (out .entry)) (now (out .exit)) r ⌝",
+    "cct_c::ck_read_records": (BESIDE, f"FileOfRecords (read_outcome file.now (size_of {COLUMNS_BEFORE})) file.now", "as of records::read_records"),
+    "cct_c::ck_write_records": (BESIDE, f"ReadsBack (write_outcome (size_of {COLUMNS_LENT}) (length file.old)) (list_of {COLUMNS_LENT})",
+                                "as of records::write_records"),
+    "cct_c::ck_salvage": (BESIDE, "KeptBack (salvage_outcome edges.now record_length bytes.now (length file.old) (length dropped.old)) edges.now "
+                          "record_length bytes.now", "as of salvage::salvage"),
+    "records::read_records": (BESIDE, "FileOfRecords result file.now",
+                              "what `written_read` says of a list of bytes, for the machine's: no hypothesis is left"),
+    "records::write_records": (BESIDE, f"ReadsBack result (list_of {COLUMNS_LENT})",
+                               "what `read_written` says of a list of records, for the machine's numbers: no hypothesis is left"),
+    "salvage::salvage": (BESIDE, "KeptBack result edges.now record_length bytes.now",
+                         "what `kept_back` says of a list of bytes, for the machine's: no hypothesis is left"),
+    "text::block": (INSTEAD, "Blocked scan input.now out.old out.new result",
                     "the record Blocked gives every field, and the whole buffer, by an equation each"),
-    "text::finish": (INSTEAD, "λ r. ⌜ Wrote 0 (now (out .entry)) (now (out .exit)) r (closes scan) ⌝",
+    "text::finish": (INSTEAD, "Wrote 0 out.old out.new result (closes scan)",
                      "the record Wrote gives the end and the whole buffer by an equation each"),
 }
 
@@ -70,12 +69,12 @@ WITHOUT_DIVISION = {
     "nearest::coarse_micro": "a panel that has whole numbers need not divide at all",
 }
 
-EQUATION = re.compile(r"^λ (?P<result>\w+)\. ⌜ (?P=result) ≡ (?P<value>.+) ⌝$")
-PROMISE = re.compile(r"^λ \w+\. ⌜ (?P<said>.+) ⌝$")
-UNCHANGED = re.compile(r"now \((?P<name>«?\w+»?) \.exit\) ≡ now \((?P=name) \.entry\)")
-SLICE = r"now \(«?\w+»? \.(?:exit|entry)\)"
-COLUMNS = re.compile(r"columns(?: \(%s\))+" % SLICE)  # a record of its arguments: two are equal only where all of these are
-AT_END = re.compile(r"now \(«?\w+»? \.exit\)|columns(?: \(now \(«?\w+»? \.exit\)\))+")
+EQUATION = re.compile(r"^result ≡ (?P<value>.+)$")
+UNCHANGED = re.compile(r"(?P<name>«?\w+»?)\.exit\.now ≡ (?P=name)\.entry\.now")
+SLICE = r"«?\w+»?\.(?:exit|entry)\.now"
+COLUMNS = re.compile(r"columns(?: %s)+" % SLICE)  # a record of its arguments: two are equal only where all of these are
+AT_END = re.compile(r"«?\w+»?\.new|columns(?: «?\w+»?\.new)+")
+ENDS = re.compile(r"\.(?:new|exit)\b")
 
 
 def mentions(name, text):
@@ -86,16 +85,15 @@ def mentions(name, text):
 def is_equation(promise):
     """Whether a promise gives the result as something that does not speak of the result."""
     match = EQUATION.match(promise)
-    return match is not None and not mentions(match["result"], match["value"])
+    return match is not None and not mentions("result", match["value"])
 
 
 def parts_of(promise):
     """What a promise says, in parts: several in brackets joined by `×`, or, of two `columns`, an equation for each argument."""
-    match = PROMISE.match(promise)
-    parts = match["said"].split(" × ") if match else []
+    parts = promise.split(" × ")
     if len(parts) > 1:
         return [part[1:-1] if part[0] + part[-1] == "()" else "" for part in parts]
-    sides = parts[0].split(" ≡ ") if parts else []
+    sides = promise.split(" ≡ ")
     if len(sides) == 2 and all(map(COLUMNS.fullmatch, sides)):
         left, right = (re.findall(SLICE, side) for side in sides)
         return ["%s ≡ %s" % pair for pair in zip(left, right)] if len(left) == len(right) else [""]
@@ -110,16 +108,15 @@ def unchanged_by(promise):
 
 def is_of_the_end(promise):
     """Whether a promise gives what is lent, as it is at the end, by something that does not speak of the end."""
-    match = PROMISE.match(promise)
-    left, equals, right = match["said"].partition(" ≡ ") if match else ("", "", "")
-    return AT_END.fullmatch(left) is not None and equals != "" and ".exit" not in right
+    left, equals, right = promise.partition(" ≡ ")
+    return AT_END.fullmatch(left) is not None and equals != "" and ENDS.search(right) is None
 
 
 def parameter_faults(name, kind, promises, is_entry):
     """What the promises leave unsaid about one parameter."""
     spoken = " ".join(promises)
     if kind.startswith("&mut"):
-        if not mentions(name + " .exit", spoken):
+        if not mentions(name + ".new", spoken):
             yield "exit " + name
     elif kind.startswith("&"):
         if not any(name in unchanged_by(promise) for promise in promises):
@@ -192,7 +189,7 @@ MEANING = {
     "ensures": "it has no %s, so it promises nothing",
     "requires": "it has a %s that is not among the exceptions in tests/check_contracts.py",
     "never": "it is an entry point and has a %s that is not, word for word, one in tests/check_contracts.py",
-    "equation": "no promise is an %s `r ≡ ..` of its result, or the one that tests/check_contracts.py has instead",
+    "equation": "no promise is an %s `result ≡ ..` of its result, or the one that tests/check_contracts.py has instead",
     "promise": "a promise is no equation, and not the one that tests/check_contracts.py has: %s",
     "unchanged": "no promise says that the lent `%s` is unchanged",
     "exit": "no promise speaks of what `%s` holds at the end",
@@ -263,31 +260,31 @@ pub fn add(
     edges: &[u32],
     out: &mut [u8; 4],
 ) -> [u32; 2]
-    ensures answers { λ r. ⌜ r ≡ sum x (now (edges .entry)) ⌝ }
-    ensures unchanged { λ _. ⌜ now (edges .exit) ≡ now (edges .entry) ⌝ }
-    ensures { λ r. ⌜ now (out .exit) ≡ bytes r ⌝ }
+    ensures answers { result ≡ sum x edges.now }
+    ensures unchanged { edges.exit.now ≡ edges.entry.now }
+    ensures { out.new ≡ bytes result }
 {
     if x == 0 { one() } else { two() }
 }
 
 pub fn point(us: &[u32; 24], vs: &[u32; 24]) -> u32
-    ensures answers { λ r. ⌜ r ≡ locus ⌝ }
-    ensures unchanged { λ r. ⌜ (now (us .exit) ≡ now (us .entry)) × (now (vs .exit) ≡ now (vs .entry)) ⌝ }
+    ensures answers { result ≡ locus }
+    ensures unchanged { (us.exit.now ≡ us.entry.now) × (vs.exit.now ≡ vs.entry.now) }
 {
     us[0]
 }
 
 pub fn store(xs: &[u32], ys: &[i16], rows: &mut [u32], file: &mut [u8]) -> u32
-    ensures answers { λ r. ⌜ r ≡ sizeOf (columns (now (xs .entry)) (now (ys .entry))) ⌝ }
-    ensures unchanged { λ _. ⌜ columns (now (xs .exit)) (now (ys .exit)) ≡ columns (now (xs .entry)) (now (ys .entry)) ⌝ }
-    ensures target { λ r. ⌜ columns (now (rows .exit)) (now (file .exit)) ≡ filled r (now (rows .entry)) (now (file .entry)) ⌝ }
+    ensures answers { result ≡ size_of (columns xs.now ys.now) }
+    ensures unchanged { columns xs.exit.now ys.exit.now ≡ columns xs.entry.now ys.entry.now }
+    ensures target { columns rows.new file.new ≡ filled result rows.old file.old }
 {
     0
 }
 
 impl Board {
     pub fn size(self) -> u32
-        ensures { λ r. ⌜ r ≡ sizeOf self ⌝ }
+        ensures { result ≡ size_of self }
     {
         64
     }
@@ -301,39 +298,40 @@ TRACED = {"good::add", "good::point", "good::store", "good::Board::size"}
 
 # What is changed in the text above, and the words of a fault that must be found then.
 FAULTS = (
-    ("    ensures { λ r. ⌜ r ≡ sizeOf self ⌝ }\n", "    requires { ⌜ 0 < 1 ⌝ }\n", "it has no ensures"),
-    ("        ensures { λ r. ⌜ r ≡ sizeOf self ⌝ }\n    {", "    {", "it has no ensures"),
-    ("        ensures { λ r. ⌜ r ≡ sizeOf self ⌝ }", "        // ensures { λ r. ⌜ r ≡ sizeOf self ⌝ }", "it has no ensures"),
-    ("        ensures { λ r. ⌜ r ≡ sizeOf self ⌝ }", "        /* ensures { λ r. ⌜ r ≡ sizeOf self ⌝ } */", "it has no ensures"),
-    ("r ≡ sum x (now (edges .entry))", "sum x (now (edges .entry)) ≤ 5", "no promise is an equation"),
-    ("r ≡ sizeOf self", "r ≡ cond (leb r self) r self", "no promise is an equation"),
-    ("now (edges .exit) ≡ now (edges .entry)", "now (edges .entry) ≡ now (edges .entry)", "the lent `edges` is unchanged"),
-    ("now (edges .exit) ≡ now", "x ≡ 0 → now (edges .exit) ≡ now", "the lent `edges` is unchanged"),
-    ("(now (us .exit) ≡ now (us .entry))", "(0 ≡ 0)", "the lent `us` is unchanged"),
-    ("(now (us .exit) ≡ now", "r ≡ 0 → (now (us .exit) ≡ now", "the lent `vs` is unchanged"),
-    ("(now (vs .exit) ≡ now (vs .entry))", "(now (vs .exit) ≡ now (us .entry))", "the lent `vs` is unchanged"),
-    ("now (out .exit) ≡ bytes r", "now (out .entry) ≡ bytes r", "what `out` holds"),
-    ("now (out .exit) ≡ bytes r", "now (out .exit) ≡ now (out .exit)", "a promise is no equation"),
-    ("now (out .exit) ≡ bytes r", "x ≡ 0 → now (out .exit) ≡ bytes r", "a promise is no equation"),
-    ("columns (now (xs .exit)) (now (ys .exit)) ≡", "columns (now (ys .exit)) (now (xs .exit)) ≡", "the lent `xs` is unchanged"),
-    ("≡ columns (now (xs .entry)) (now (ys .entry))", "≡ columns (now (xs .entry))", "the lent `ys` is unchanged"),
-    ("columns (now (xs .exit)) (now (ys .exit)) ≡ columns", "sum (now (xs .exit)) (now (ys .exit)) ≡ sum", "`ys` is unchanged"),
-    ("≡ filled r (now (rows .entry))", "≡ filled r (now (rows .exit))", "a promise is no equation"),
-    ("λ r. ⌜ r ≡ sizeOf self ⌝ }", "λ r. ⌜ r ≡ sizeOf self ⌝ } ensures { λ r. ⌜ Sized 0 self r ⌝ }", "is no equation"),
+    ("    ensures { result ≡ size_of self }\n", "    requires { 0 < 1 }\n", "it has no ensures"),
+    ("        ensures { result ≡ size_of self }\n    {", "    {", "it has no ensures"),
+    ("        ensures { result ≡ size_of self }", "        // ensures { result ≡ size_of self }", "it has no ensures"),
+    ("        ensures { result ≡ size_of self }", "        /* ensures { result ≡ size_of self } */", "it has no ensures"),
+    ("result ≡ sum x edges.now", "sum x edges.now ≤ 5", "no promise is an equation"),
+    ("result ≡ size_of self", "result ≡ cond (nat_le result self) result self", "no promise is an equation"),
+    ("edges.exit.now ≡ edges.entry.now", "edges.entry.now ≡ edges.entry.now", "the lent `edges` is unchanged"),
+    ("edges.exit.now ≡ edges.entry.now", "edges.now ≡ edges.now", "the lent `edges` is unchanged"),
+    ("edges.exit.now ≡ edges", "x ≡ 0 → edges.exit.now ≡ edges", "the lent `edges` is unchanged"),
+    ("(us.exit.now ≡ us.entry.now)", "(0 ≡ 0)", "the lent `us` is unchanged"),
+    ("(us.exit.now ≡ us", "result ≡ 0 → (us.exit.now ≡ us", "the lent `vs` is unchanged"),
+    ("(vs.exit.now ≡ vs.entry.now)", "(vs.exit.now ≡ us.entry.now)", "the lent `vs` is unchanged"),
+    ("out.new ≡ bytes result", "out.old ≡ bytes result", "what `out` holds"),
+    ("out.new ≡ bytes result", "out.new ≡ out.new", "a promise is no equation"),
+    ("out.new ≡ bytes result", "x ≡ 0 → out.new ≡ bytes result", "a promise is no equation"),
+    ("columns xs.exit.now ys.exit.now ≡", "columns ys.exit.now xs.exit.now ≡", "the lent `xs` is unchanged"),
+    ("≡ columns xs.entry.now ys.entry.now", "≡ columns xs.entry.now", "the lent `ys` is unchanged"),
+    ("columns xs.exit.now ys.exit.now ≡ columns", "sum xs.exit.now ys.exit.now ≡ sum", "`ys` is unchanged"),
+    ("≡ filled result rows.old", "≡ filled result rows.new", "a promise is no equation"),
+    ("result ≡ size_of self }", "result ≡ size_of self } ensures { Sized 0 self result }", "is no equation"),
     ("pub fn add(", "pub fn plus(", "docs/TRACE.md does not name it"),
     ("pub(crate) fn inner", "pub fn inner", "it has no ensures"),
 )
 # The same, of faults of an entry crate only.
 ENTRY_FAULTS = (
-    (") -> [u32; 2]\n", ") -> [u32; 2]\n    requires { ⌜ x < 5 ⌝ }\n", "it is an entry point"),
-    ("sum x (now", "sum 0 (now", "the parameter `x`"),
+    (") -> [u32; 2]\n", ") -> [u32; 2]\n    requires { x < 5 }\n", "it is an entry point"),
+    ("sum x edges", "sum 0 edges", "the parameter `x`"),
 )
 
 # A function that only shifts, adds, subtracts and compares, with what it calls, and one that it does not call.
 PLAIN = """
 // Not n * n / 2 % 3.
 pub fn root(n: u64) -> u32
-    ensures { λ r. ⌜ r * r ≡ nearest n ⌝ }
+    ensures { result * result ≡ nearest n }
 {
     let mut left = n; /* 2 * n */
     let mut found = 0u64;
@@ -350,7 +348,7 @@ fn rounds(n: u64) -> u32 {
 }
 
 fn less(left: u64, growth: u64) -> u64
-    requires { ⌜ growth * 1 ≤ left ⌝ }
+    requires { growth * 1 ≤ left }
 {
     left - growth
 }
@@ -455,22 +453,22 @@ def self_test():
             assert GOOD.count(old) == 1, old
             found = check(GOOD.replace(old, new), entry)
             assert any(words in fault for fault in found), (words, found)
-    bounded = GOOD.replace(") -> [u32; 2]\n", ") -> [u32; 2]\n    requires { ⌜ x < 5 ⌝ }\n")
+    bounded = GOOD.replace(") -> [u32; 2]\n", ") -> [u32; 2]\n    requires { x < 5 }\n")
     small = {"good::add": "x is small"}
     assert "not among the exceptions" in " ".join(check(bounded))
     assert check(bounded, (), small) == [], check(bounded, (), small)
     assert check(GOOD, (), small) == ["good::add: the exception 'requires' is not needed"], check(GOOD, (), small)
     assert len(check(bounded, ("good",), small)) == 2
-    for said, count in (("⌜ x < 5 ⌝", 0), ("⌜ x < 6 ⌝", 2)):
+    for said, count in (("x < 5", 0), ("x < 6", 2)):
         assert len(check(bounded, ("good",), entry_requires={"good::add": (said, "x is small")})) == count
-    assert len(check(GOOD, ("good",), entry_requires={"good::add": ("⌜ x < 5 ⌝", "x is small")})) == 1
-    whole, weak = (GOOD.replace("r ≡ sizeOf self", said) for said in ("Sized 0 self r", "Sized 1 self r"))
-    both = GOOD.replace("λ r. ⌜ r ≡ sizeOf self ⌝ }", "λ r. ⌜ r ≡ sizeOf self ⌝ } ensures { λ r. ⌜ Sized 0 self r ⌝ }")
+    assert len(check(GOOD, ("good",), entry_requires={"good::add": ("x < 5", "x is small")})) == 1
+    whole, weak = (GOOD.replace("result ≡ size_of self", said) for said in ("Sized 0 self result", "Sized 1 self result"))
+    both = GOOD.replace("result ≡ size_of self }", "result ≡ size_of self } ensures { Sized 0 self result }")
     no_equation, other, lost, unneeded = "no promise is an equation", "a promise is no equation", "is not there", "is not needed"
     for stands, expected in ((INSTEAD, ([], [no_equation, other, lost, unneeded], [unneeded], [lost, unneeded])),
                              (BESIDE, ([no_equation], [no_equation, other, lost], [], [lost]))):
         for text, words in zip((whole, weak, both, GOOD), expected):
-            found = check(text, promises={"good::Board::size": (stands, "λ r. ⌜ Sized 0 self r ⌝", "the record Sized gives it")})
+            found = check(text, promises={"good::Board::size": (stands, "Sized 0 self result", "the record Sized gives it")})
             assert len(found) == len(words) and all(word in fault for word, fault in zip(words, found)), (stands, words, found)
     try:
         functions(GOOD.replace("pub fn add", "pub unsafe fn add"))

@@ -12,6 +12,7 @@ from pathlib import Path
 ROOT = Path(__file__).resolve().parent.parent
 COMMAND = ROOT / "bin/cradlekeel"
 PROGRAM = ROOT / "target/cradlekeel"
+LINKED = ROOT / "crates/cradlekeel/out/cradlekeel"
 LIBRARY = ROOT / "target/lib/libcradlekeel.a"
 PATIENCE = 60  # seconds that one run may take; a build gets ten times as many
 checks = 0
@@ -44,21 +45,20 @@ def no_large_files():
     resource.setrlimit(resource.RLIMIT_FSIZE, (20, 20))
 
 
-# Stands for rt in a copy: `rt check cradlekeel` links PROGRAM, unless its stamp says that it is proved, and
-# `rt staticlib cct_c` copies LIBRARY.
+# Stands for rt in a copy: `rt run` in crates/cradlekeel links PROGRAM, unless it stands there whole, and runs it, and `rt lib` in
+# crates/cct_c copies LIBRARY.
 STAND_IN = """#!/bin/sh
-[ -f crates.txt ] || exit 9
+[ -f ../../crates.txt ] || exit 9
 echo run >>"$RT_RUNS"
-mkdir -p target/bin target/stamp target/staticlib
+mkdir -p out
 case $RT_MODE in
 slow) sleep 1 ;;
 fail) echo "rt: FAILED: text" && exit 1 ;;
-half) rm -f target/stamp/cradlekeel && head -c 99 "$RT_PROGRAM" >target/bin/cradlekeel &&
-    chmod +x target/bin/cradlekeel && sleep 60 ;;
+half) head -c 99 "$RT_PROGRAM" >out/cradlekeel && chmod +x out/cradlekeel && sleep 60 ;;
 esac
-case $* in
-"check cradlekeel") [ -f target/stamp/cradlekeel ] || { cp "$RT_PROGRAM" target/bin/cradlekeel && : >target/stamp/cradlekeel; } ;;
-"staticlib cct_c") cp "$RT_LIBRARY" target/staticlib/libcct_c.a ;;
+case "${PWD##*/} $*" in
+"cradlekeel run") { cmp -s "$RT_PROGRAM" out/cradlekeel || cp "$RT_PROGRAM" out/cradlekeel; } && out/cradlekeel ;;
+"cct_c lib") cp "$RT_LIBRARY" out/libcct_c.a ;;
 *) exit 9 ;;
 esac
 """
@@ -70,10 +70,12 @@ class Copy:
     def __init__(self, folder):
         self.root, self.runs = folder / "a copy", folder / "runs"
         self.command, self.program = self.root / "bin/cradlekeel", self.root / "target/cradlekeel"
+        self.linked = self.root / "crates/cradlekeel/out/cradlekeel"
         for part in ("bin", "python", "data"):
             shutil.copytree(ROOT / part, self.root / part, ignore=shutil.ignore_patterns("__pycache__"))
         shutil.copy2(ROOT / "Makefile", self.root)
-        (self.root / "crates").mkdir()
+        for crate in ("cradlekeel", "cct_c"):
+            (self.root / "crates" / crate / "src").mkdir(parents=True)
         (self.root / "crates.txt").touch()
         (folder / "tools").mkdir()
         (folder / "tools/rt").write_text(STAND_IN)

@@ -23,10 +23,11 @@ def numbers():
 
 
 def table_text():
-    """The file as `rt fmt` lays it out, one number to a line."""
+    """The file as `rt fmt` lays it out, twelve numbers to a line: all have six digits."""
     given = numbers()
+    lines = [given[at:at + 12] for at in range(0, len(given), 12)]
     head = "// u and v of the %s ready points in turn, in micro; tests/make_table.py writes this file.\n" % format(len(given) // 2, ",")
-    return head + "pub const READY: [u32; %d] = [\n" % len(given) + "".join("    %d,\n" % number for number in given) + "];\n"
+    return head + "pub const READY: [u32; %d] = [\n" % len(given) + "".join("    %s,\n" % ", ".join(map(str, line)) for line in lines) + "];\n"
 
 
 def check(wanted):

@@ -15,7 +15,7 @@ const LAST_PARTY: u8 = 1;
 
 // What a call is told: the lot, the stamp and the number of the refusal, with zeros in all that it does not carry.
 #[repr(C)]
-#[derive(Drop)]
+#[derive(Clone, Copy)]
 pub struct PlainTold {
     pub lot: Lot,
     pub stamp: u16,
@@ -24,7 +24,7 @@ pub struct PlainTold {
 
 // The board after a call, and what the call is told.
 #[repr(C)]
-#[derive(Drop)]
+#[derive(Clone, Copy)]
 pub struct BoardAnswer {
     pub board: Board,
     pub told: PlainTold,
@@ -109,8 +109,8 @@ pub extern "C" fn ck_board_load(
     class2: &[u8],
 ) -> BoardAnswer
     ensures answered { result ≡ plain_answered (loaded (list_of (columns u.now v.now place.now low.now high.now duv.now steps.now class.now)) (list_of (columns u2.now v2.now place2.now low2.now high2.now duv2.now steps2.now class2.now))) }
-    ensures unchanged { columns u.now v.now place.now low.now high.now duv.now steps.now class.now ≡ columns u.now v.now place.now low.now high.now duv.now steps.now class.now }
-    ensures theirs_unchanged { columns u2.now v2.now place2.now low2.now high2.now duv2.now steps2.now class2.now ≡ columns u2.now v2.now place2.now low2.now high2.now duv2.now steps2.now class2.now }
+    ensures unchanged { columns u.exit.now v.exit.now place.exit.now low.exit.now high.exit.now duv.exit.now steps.exit.now class.exit.now ≡ columns u.entry.now v.entry.now place.entry.now low.entry.now high.entry.now duv.entry.now steps.entry.now class.entry.now }
+    ensures theirs_unchanged { columns u2.exit.now v2.exit.now place2.exit.now low2.exit.now high2.exit.now duv2.exit.now steps2.exit.now class2.exit.now ≡ columns u2.entry.now v2.entry.now place2.entry.now low2.entry.now high2.entry.now duv2.entry.now steps2.entry.now class2.entry.now }
 {
     let answered = Board::load(
         u, v, place, low, high, duv, steps, class, u2, v2, place2, low2, high2, duv2, steps2,

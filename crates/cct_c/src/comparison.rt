@@ -9,7 +9,7 @@ use refusal::Refusal;
 // What a comparison came to: how many differences are listed, or a count of 0, the number of the refusal, and the file that is
 // refused, 1 or 2; 0 where it is neither.
 #[repr(C)]
-#[derive(Drop)]
+#[derive(Clone, Copy)]
 pub struct PlainCompared {
     pub count: usize,
     pub refusal: u8,
@@ -46,7 +46,7 @@ fn plain_compared(compared: Compared) -> PlainCompared
 pub extern "C" fn ck_compare_files(first: &[u8], second: &[u8], target: &mut [i64]) -> PlainCompared
     ensures outcome { result ≡ plain_compared (compare_outcome first.now second.now (length target.old)) }
     ensures target { target.new ≡ listed_into (compare_outcome first.now second.now (length target.old)) first.now second.now target.old }
-    ensures unchanged { (first.now ≡ first.now) × (second.now ≡ second.now) }
+    ensures unchanged { (first.exit.now ≡ first.entry.now) × (second.exit.now ≡ second.entry.now) }
 {
     plain_compared(compare::compare_files(first, second, target))
 }

@@ -13,7 +13,7 @@ use records::{Form, Outcome, Record, ZERO_RECORD};
 
 // What a function on files did: a count, or the number of the refusal and a count of 0.
 #[repr(C)]
-#[derive(Drop)]
+#[derive(Clone, Copy)]
 pub struct Done {
     pub count: usize,
     pub refusal: u8,
@@ -21,7 +21,7 @@ pub struct Done {
 
 // The record of an answer, with a 1; or zeros.
 #[repr(C)]
-#[derive(Drop)]
+#[derive(Clone, Copy)]
 pub struct KeptRecord {
     pub fields: Record,
     pub kept: u8,
@@ -87,7 +87,7 @@ pub extern "C" fn ck_write_records(
 ) -> Done
     ensures outcome { result ≡ plain_outcome (write_outcome (size_of (columns u.now v.now place.now low.now high.now duv.now steps.now class.now)) (length file.old)) }
     ensures target { file.new ≡ written (write_outcome (size_of (columns u.now v.now place.now low.now high.now duv.now steps.now class.now)) (length file.old)) (list_of (columns u.now v.now place.now low.now high.now duv.now steps.now class.now)) file.old }
-    ensures unchanged { columns u.now v.now place.now low.now high.now duv.now steps.now class.now ≡ columns u.now v.now place.now low.now high.now duv.now steps.now class.now }
+    ensures unchanged { columns u.exit.now v.exit.now place.exit.now low.exit.now high.exit.now duv.exit.now steps.exit.now class.exit.now ≡ columns u.entry.now v.entry.now place.entry.now low.entry.now high.entry.now duv.entry.now steps.entry.now class.entry.now }
     ensures back { ReadsBack (write_outcome (size_of (columns u.now v.now place.now low.now high.now duv.now steps.now class.now)) (length file.old)) (list_of (columns u.now v.now place.now low.now high.now duv.now steps.now class.now)) }
 {
     plain_outcome(records::write_records(u, v, place, low, high, duv, steps, class, file))
@@ -108,7 +108,7 @@ pub extern "C" fn ck_read_records(
 ) -> Done
     ensures outcome { result ≡ plain_outcome (read_outcome file.now (size_of (columns u.old v.old place.old low.old high.old duv.old steps.old class.old))) }
     ensures target { columns u.new v.new place.new low.new high.new duv.new steps.new class.new ≡ read_into (read_outcome file.now (size_of (columns u.old v.old place.old low.old high.old duv.old steps.old class.old))) file.now (columns u.old v.old place.old low.old high.old duv.old steps.old class.old) }
-    ensures unchanged { file.now ≡ file.now }
+    ensures unchanged { file.exit.now ≡ file.entry.now }
     ensures again { FileOfRecords (read_outcome file.now (size_of (columns u.old v.old place.old low.old high.old duv.old steps.old class.old))) file.now }
 {
     plain_outcome(records::read_records(file, u, v, place, low, high, duv, steps, class))
@@ -118,7 +118,7 @@ pub extern "C" fn ck_read_records(
 #[unsafe(no_mangle)]
 pub extern "C" fn ck_check_file(file: &[u8]) -> Done
     ensures form { result ≡ plain_form (form_of file.now) }
-    ensures unchanged { file.now ≡ file.now }
+    ensures unchanged { file.exit.now ≡ file.entry.now }
 {
     plain_form(records::check_form(file))
 }
@@ -127,7 +127,7 @@ pub extern "C" fn ck_check_file(file: &[u8]) -> Done
 #[unsafe(no_mangle)]
 pub extern "C" fn ck_record_at(file: &[u8], i: usize) -> Record
     ensures record { result ≡ get_or (records_of file.now) i zero_record }
-    ensures unchanged { file.now ≡ file.now }
+    ensures unchanged { file.exit.now ≡ file.entry.now }
 {
     records::file_record(file, i)
 }

@@ -1,4 +1,6 @@
 // The C ABI of the library: one function for each entry point, declared in include/cradlekeel.h.
+#![tactic(auto)]
+
 mod boards;
 mod coarse;
 mod comparison;
@@ -18,7 +20,7 @@ use reading::Reading;
 #[unsafe(no_mangle)]
 pub extern "C" fn ck_read_uv(u: f32, v: f32, edges: &[u32], max_steps: u32) -> FloatAnswer
     ensures answers { result ≡ float_answer (answer edges.now (convert_reading (Reading.Uv u v)) max_steps) }
-    ensures unchanged { edges.now ≡ edges.now }
+    ensures unchanged { edges.exit.now ≡ edges.entry.now }
 {
     let converted = reading::convert(Reading::Uv(u, v));
     cct::answer_converted(converted, edges, max_steps)
@@ -33,7 +35,7 @@ pub extern "C" fn ck_read_uvp(
     max_steps: u32,
 ) -> FloatAnswer
     ensures answers { result ≡ float_answer (answer edges.now (convert_reading (Reading.UvPrime u_prime v_prime)) max_steps) }
-    ensures unchanged { edges.now ≡ edges.now }
+    ensures unchanged { edges.exit.now ≡ edges.entry.now }
 {
     let converted = reading::convert(Reading::UvPrime(u_prime, v_prime));
     cct::answer_converted(converted, edges, max_steps)
@@ -43,7 +45,7 @@ pub extern "C" fn ck_read_uvp(
 #[unsafe(no_mangle)]
 pub extern "C" fn ck_read_xy(x: f32, y: f32, edges: &[u32], max_steps: u32) -> FloatAnswer
     ensures answers { result ≡ float_answer (answer edges.now (convert_reading (Reading.Xy x y)) max_steps) }
-    ensures unchanged { edges.now ≡ edges.now }
+    ensures unchanged { edges.exit.now ≡ edges.entry.now }
 {
     let converted = reading::convert(Reading::Xy(x, y));
     cct::answer_converted(converted, edges, max_steps)
@@ -53,7 +55,7 @@ pub extern "C" fn ck_read_xy(x: f32, y: f32, edges: &[u32], max_steps: u32) -> F
 #[unsafe(no_mangle)]
 pub extern "C" fn ck_read_xyz(x: f32, y: f32, z: f32, edges: &[u32], max_steps: u32) -> FloatAnswer
     ensures answers { result ≡ float_answer (answer edges.now (convert_reading (Reading.Xyz x y z)) max_steps) }
-    ensures unchanged { edges.now ≡ edges.now }
+    ensures unchanged { edges.exit.now ≡ edges.entry.now }
 {
     let converted = reading::convert(Reading::Xyz(x, y, z));
     cct::answer_converted(converted, edges, max_steps)
@@ -63,7 +65,7 @@ pub extern "C" fn ck_read_xyz(x: f32, y: f32, z: f32, edges: &[u32], max_steps: 
 #[unsafe(no_mangle)]
 pub extern "C" fn ck_read_micro(u: u32, v: u32, edges: &[u32], max_steps: u32) -> FloatAnswer
     ensures answers { result ≡ float_answer (answer edges.now (convert_micro u v) max_steps) }
-    ensures unchanged { edges.now ≡ edges.now }
+    ensures unchanged { edges.exit.now ≡ edges.entry.now }
 {
     cct::answer_micro(u, v, edges, max_steps)
 }
@@ -79,7 +81,7 @@ pub extern "C" fn ck_read_samples(
     max_steps: u32,
 ) -> FloatAnswer
     ensures answers { result ≡ float_answer (answer edges.now (convert_samples samples.now x_bar.now y_bar.now z_bar.now) max_steps) }
-    ensures unchanged { (samples.now ≡ samples.now) × (x_bar.now ≡ x_bar.now) × (y_bar.now ≡ y_bar.now) × (z_bar.now ≡ z_bar.now) × (edges.now ≡ edges.now) }
+    ensures unchanged { (samples.exit.now ≡ samples.entry.now) × (x_bar.exit.now ≡ x_bar.entry.now) × (y_bar.exit.now ≡ y_bar.entry.now) × (z_bar.exit.now ≡ z_bar.entry.now) × (edges.exit.now ≡ edges.entry.now) }
 {
     cct::answer_samples(samples, x_bar, y_bar, z_bar, edges, max_steps)
 }

@@ -9,7 +9,7 @@ use salvage::Salvaged;
 // What a salvage came to: how many records are kept, how many are dropped and how many bytes are left over; or the number of the
 // refusal, and counts of 0.
 #[repr(C)]
-#[derive(Drop)]
+#[derive(Clone, Copy)]
 pub struct PlainSalvaged {
     pub kept: usize,
     pub dropped: usize,
@@ -48,7 +48,7 @@ pub extern "C" fn ck_salvage(
     ensures outcome { result ≡ plain_salvaged (salvage_outcome edges.now record_length bytes.now (length file.old) (length dropped.old)) }
     ensures file { file.new ≡ file_into (salvage_outcome edges.now record_length bytes.now (length file.old) (length dropped.old)) edges.now record_length bytes.now file.old }
     ensures list { dropped.new ≡ dropped_into (salvage_outcome edges.now record_length bytes.now (length file.old) (length dropped.old)) edges.now record_length bytes.now dropped.old }
-    ensures unchanged { (bytes.now ≡ bytes.now) × (edges.now ≡ edges.now) }
+    ensures unchanged { (bytes.exit.now ≡ bytes.entry.now) × (edges.exit.now ≡ edges.entry.now) }
     ensures back { KeptBack (salvage_outcome edges.now record_length bytes.now (length file.old) (length dropped.old)) edges.now record_length bytes.now }
 {
     plain_salvaged(salvage::salvage(bytes, record_length, edges, file, dropped))

@@ -1,9 +1,16 @@
 // Reads lines from standard input and writes the answer to each to standard output.
+#![tactic(auto)]
+
 ghost use Rattle.std.specs.Prelude.{◌≤◌, ◌≡◌, length};
 ghost use Rattle.text.specs.Block.{line_room};
 ghost use Rattle.cradlekeel.specs.Code.Turns.{AfterBlock, AfterRead, AfterSomeRead, after_write};
 
+use std::io;
+use std::io::{Read, Write};
 use text::Scan;
+
+// How many bytes a read takes, and how many bytes of answers are written at once, at the most.
+const BLOCK: usize = 65536;
 
 // What one read of the input came to.
 #[derive(Drop)]
@@ -16,19 +23,29 @@ enum Turn {
     Failed,
 }
 
+// Writes to standard output; answers whether all was written.
+fn write_out(rt: HostRuntime, bytes: &[u8]) -> bool {
+    rt.stdout().write_all(bytes).is_ok()
+}
+
+// Says on standard error what failed; where that cannot be written either, nothing is left to tell.
+fn say(rt: HostRuntime, message: &[u8]) {
+    let _ = rt.stderr().write_all(message);
+}
+
 // Carries the line on after a write, or says on standard error that the output cannot be written.
-fn after_write(written: bool, scan: Scan) -> Turn
+fn after_write(rt: HostRuntime, written: bool, scan: Scan) -> Turn
     ensures { result ≡ after_write written scan }
 {
     if written {
         return Turn::More(scan);
     }
-    io::write_all(2, b"cradlekeel: cannot write standard output\n");
+    say(rt, b"cradlekeel: cannot write standard output\n");
     Turn::Failed
 }
 
 // Writes the answers to the lines that end in a block of input.
-fn answer_block(scan: Scan, input: &[u8], output: &mut [u8]) -> Turn
+fn answer_block(rt: HostRuntime, scan: Scan, input: &[u8], output: &mut [u8]) -> Turn
     requires { line_room ≤ length output.old }
     ensures { AfterBlock scan input.now result }
 {
@@ -37,8 +54,8 @@ fn answer_block(scan: Scan, input: &[u8], output: &mut [u8]) -> Turn
     while at < input.len() {
         let done = text::block(s, &input[at..], output);
         let n = done.written;
-        let written = io::write_all(1, &output[..n]);
-        let Turn::More(next) = after_write(written, done.scan) else {
+        let written = write_out(rt, &output[..n]);
+        let Turn::More(next) = after_write(rt, written, done.scan) else {
             return Turn::Failed;
         };
         s = next;
@@ -48,38 +65,44 @@ fn answer_block(scan: Scan, input: &[u8], output: &mut [u8]) -> Turn
 }
 
 // Answers what a read into the input brought, or says on standard error that it cannot be read.
-fn answer_read(scan: Scan, input: &[u8], got: isize, output: &mut [u8]) -> Turn
+fn answer_read(
+    rt: HostRuntime,
+    scan: Scan,
+    input: &[u8],
+    got: io::Result<usize>,
+    output: &mut [u8],
+) -> Turn
     requires { line_room ≤ length output.old }
     ensures { AfterRead scan input.now got result }
 {
-    if got < 0 {
-        io::write_all(2, b"cradlekeel: cannot read standard input\n");
+    let Ok(count) = got else {
+        say(rt, b"cradlekeel: cannot read standard input\n");
         return Turn::Failed;
-    }
-    if got == 0 {
+    };
+    if count == 0 {
         return Turn::Ended;
     }
-    let n = io::count(got, input);
-    answer_block(scan, &input[..n], output)
+    let n = arith::lesser(count, input.len());
+    answer_block(rt, scan, &input[..n], output)
 }
 
 // Reads once, and answers what was read.
-fn read_block(scan: Scan, input: &mut [u8], output: &mut [u8]) -> Turn
+fn read_block(rt: HostRuntime, scan: Scan, input: &mut [u8], output: &mut [u8]) -> Turn
     requires { line_room ≤ length output.old }
     ensures { AfterSomeRead scan input.new result }
 {
-    let got = libc::read(0, input);
-    answer_read(scan, input, got, output)
+    let got = rt.stdin().read(input);
+    answer_read(rt, scan, input, got, output)
 }
 
-fn main() {
-    let mut input = io::large_buffer();
-    let mut output = io::large_buffer();
+fn main(rt: HostRuntime) {
+    let mut input = [0u8; BLOCK];
+    let mut output = [0u8; BLOCK];
     let mut scan = Scan::new();
     // Nothing says that the input ends, so the reads are counted; no input takes so many.
     let mut turns = u64::MAX;
     while turns > 0 {
-        match read_block(scan, &mut input, &mut output) {
+        match read_block(rt, scan, &mut input, &mut output) {
             Turn::More(next) => {
                 scan = next;
             }
@@ -94,6 +117,6 @@ fn main() {
     }
     let mut last = [0u8; text::LINE_ROOM];
     let n = text::finish(scan, &mut last);
-    let written = io::write_all(1, &last[..n]);
-    after_write(written, scan);
+    let written = write_out(rt, &last[..n]);
+    after_write(rt, written, scan);
 }

@@ -23,21 +23,21 @@ const SHOWN_PLACES: usize = 65;
 const LAST_STAMP: u16 = 65535;
 
 // A number of a line, and where it ends.
-#[derive(Drop)]
+#[derive(Clone, Copy)]
 struct Field {
     value: u64,
     end: usize,
 }
 
 // The letter of a call as a small one, and whose call it is.
-#[derive(Drop)]
+#[derive(Clone, Copy)]
 struct Letter {
     small: u64,
     is_partner: bool,
 }
 
 // A call as a line names it, and where it ends. A read has a place only; `times` is how many assignments are made.
-#[derive(Drop)]
+#[derive(Clone, Copy)]
 struct Call {
     is_partner: bool,
     is_read: bool,

@@ -71,10 +71,10 @@ pub(crate) fn decimal(text: &[u8]) -> u32 {
 
 // Ten times a number; only the last 64 bits are kept.
 fn ten_times(value: u64) -> u64 {
-    let twice = std::num::wrapping_add_u64(value, value);
-    let four_times = std::num::wrapping_add_u64(twice, twice);
-    let five_times = std::num::wrapping_add_u64(four_times, value);
-    std::num::wrapping_add_u64(five_times, five_times)
+    let twice = value.wrapping_add(value);
+    let four_times = twice.wrapping_add(twice);
+    let five_times = four_times.wrapping_add(value);
+    five_times.wrapping_add(five_times)
 }
 
 // A decimal number; only the last 64 bits are kept.
@@ -82,7 +82,7 @@ pub(crate) fn long_decimal(text: &[u8]) -> u64 {
     let mut value: u64 = 0;
     let mut i = 0;
     while i < text.len() {
-        value = std::num::wrapping_add_u64(ten_times(value), digit(text[i]));
+        value = ten_times(value).wrapping_add(digit(text[i]));
         i += 1;
     }
     value

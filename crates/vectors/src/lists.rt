@@ -27,7 +27,7 @@ pub(crate) const SIZE: usize = FIRST_LENGTH + 1;
 // The lists, one after another, and the lengths of the files that are held; zeros hold nothing.
 pub(crate) type Lists = [u32; SIZE];
 
-#[derive(Drop)]
+#[derive(Clone, Copy)]
 pub(crate) enum List {
     // spectral samples
     Samples,
@@ -47,14 +47,14 @@ pub(crate) enum List {
 }
 
 // Where a list begins and ends.
-#[derive(Drop)]
+#[derive(Clone, Copy)]
 struct Span {
     start: usize,
     end: usize,
 }
 
 // A number, and how many times it stands in a row.
-#[derive(Drop)]
+#[derive(Clone, Copy)]
 struct Run {
     value: u32,
     times: u32,
@@ -200,7 +200,7 @@ fn value_of(text: &[u8]) -> u32 {
     let value = fields::decimal(text);
     if text.len() > 0 {
         if text[0] == b'-' {
-            return std::num::wrapping_sub_u32(0, value);
+            return 0u32.wrapping_sub(value);
         }
     }
     value

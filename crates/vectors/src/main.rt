@@ -1,4 +1,6 @@
 // Runs test vectors: one to a line of standard input, its answer to a line of standard output.
+#![tactic(auto)]
+
 mod answers;
 mod boards;
 mod coarse;
@@ -17,6 +19,7 @@ mod targets;
 
 use files::File;
 use lists::Lists;
+use std::io::{Read, Write};
 
 // The most bytes of a line that are held; a full list of numbers of ten digits takes 5,638.
 const LINE_ROOM: usize = 8192;
@@ -28,14 +31,14 @@ const ANSWER_ROOM: usize = 16384;
 type Line = [u8; LINE_ROOM];
 
 // How many bytes of a line are held, and how many bytes of output wait to be written.
-#[derive(Drop)]
+#[derive(Clone, Copy)]
 struct Progress {
     held: usize,
     waiting: usize,
 }
 
 // What one read came to: how many bytes of a line are held, and whether there may be more to read.
-#[derive(Drop)]
+#[derive(Clone, Copy)]
 struct Turn {
     held: usize,
     more: bool,
@@ -46,18 +49,18 @@ fn as_count(n: usize) -> isize {
     if n < 65536 { n as isize } else { 65536 }
 }
 
-// Writes the output that waits.
-fn write_out(out: [u8; 65536], waiting: usize) {
+// Writes the output that waits; where it cannot be written, the answers are missing from it.
+fn write_out(rt: HostRuntime, out: [u8; 65536], waiting: usize) {
     let n = io::count(as_count(waiting), &out);
-    io::write_all(1, &out[..n]);
+    let _ = rt.stdout().write_all(&out[..n]);
 }
 
 // Writes the output where its buffer has no more room for an answer; answers how much then waits.
-fn with_room(out: &[u8; 65536], waiting: usize) -> usize {
+fn with_room(rt: HostRuntime, out: &[u8; 65536], waiting: usize) -> usize {
     if waiting < 65536 - ANSWER_ROOM {
         return waiting;
     }
-    write_out(*out, waiting);
+    write_out(rt, *out, waiting);
     0
 }
 
@@ -85,6 +88,7 @@ fn answer_held(
 
 // Takes one byte of input: a newline ends the line that is held.
 fn take_byte(
+    rt: HostRuntime,
     byte: u8,
     line: &mut Line,
     lists: &mut Lists,
@@ -101,12 +105,13 @@ fn take_byte(
     let longer = answer_held(line, progress.held, lists, file, out, progress.waiting);
     Progress {
         held: 0,
-        waiting: with_room(out, longer),
+        waiting: with_room(rt, out, longer),
     }
 }
 
 // Takes a block of input and writes its output; answers how many bytes of a line are then held.
 fn take_block(
+    rt: HostRuntime,
     input: &[u8],
     line: &mut Line,
     held: usize,
@@ -120,52 +125,58 @@ fn take_block(
     };
     let mut i = 0;
     while i < input.len() {
-        progress = take_byte(input[i], line, lists, file, &mut out, progress);
+        progress = take_byte(rt, input[i], line, lists, file, &mut out, progress);
         i += 1;
     }
-    write_out(out, progress.waiting);
+    write_out(rt, out, progress.waiting);
     progress.held
 }
 
 // Reads once.
-fn read_some(line: &mut Line, held: usize, lists: &mut Lists, file: &mut File) -> Turn {
+fn read_some(
+    rt: HostRuntime,
+    line: &mut Line,
+    held: usize,
+    lists: &mut Lists,
+    file: &mut File,
+) -> Turn {
     let mut block = io::large_buffer();
-    let got = libc::read(0, &mut block);
-    if got <= 0 {
+    let got = rt.stdin().read(&mut block).unwrap_or(0);
+    if got == 0 {
         return Turn {
             held: held,
             more: false,
         };
     }
-    let n = io::count(got, &block);
+    let n = io::count(as_count(got), &block);
     Turn {
-        held: take_block(&block[..n], line, held, lists, file),
+        held: take_block(rt, &block[..n], line, held, lists, file),
         more: true,
     }
 }
 
 // Answers a last line that has no newline.
-fn finish(line: Line, held: usize, lists: &mut Lists, file: &mut File) {
+fn finish(rt: HostRuntime, line: Line, held: usize, lists: &mut Lists, file: &mut File) {
     if held > 0 {
         let mut out = io::large_buffer();
         let waiting = answer_held(&line, held, lists, file, &mut out, 0);
-        write_out(out, waiting);
+        write_out(rt, out, waiting);
     }
 }
 
-fn main() {
+fn main(rt: HostRuntime) {
     let mut line = [0u8; LINE_ROOM];
     let mut lists = [0u32; lists::SIZE];
     let mut file = [0u8; files::SIZE];
     let mut held = 0;
     let mut turns = u64::MAX;
     while turns > 0 {
-        let turn = read_some(&mut line, held, &mut lists, &mut file);
+        let turn = read_some(rt, &mut line, held, &mut lists, &mut file);
         held = turn.held;
         if !turn.more {
             break;
         }
         turns -= 1;
     }
-    finish(line, held, &mut lists, &mut file);
+    finish(rt, line, held, &mut lists, &mut file);
 }

@@ -35,7 +35,7 @@ pub(crate) fn first(pattern: &Pattern, room: u32) -> &[u32] {
 pub(crate) fn bits_32(z: i32) -> u32 {
     let size = arith::magnitude(z);
     if z < 0 {
-        return std::num::wrapping_sub_u32(0, size);
+        return 0u32.wrapping_sub(size);
     }
     size
 }

@@ -50,7 +50,7 @@ Examples:
 
 The files have at most 64 records together, of 20 bytes or, from before, of 18; more are refused with 16, and docs/BOARD.md tells
 how to make several files of one. THEIRS may be the file that OURS is. The first run of bin/cradlekeel board proves and builds the
-library (make lib, one to two minutes); later ones start at once.
+library (make lib, many minutes where nothing is proved yet); later ones start at once.
 
 Exit status: 0 every line was understood, a refusal being an answer; 1 a line was not understood, a file could not be loaded,
 standard input not be read or standard output not be written, and a message on standard error says which; 2 wrong usage, or the

@@ -35,7 +35,7 @@ differ from one record on, look for that line with diff, in bash: diff <(cradlek
 
 A file that cannot be read is named on standard error with the reason and, where it is refused, its number, as by cradlekeel show,
 and nothing is printed; where neither can be read, the first is named. The first run of bin/cradlekeel compare proves and builds the
-library (make lib, one to two minutes); later ones start at once.
+library (make lib, many minutes where nothing is proved yet); later ones start at once.
 
 Exit status, as of cmp and diff: 0 both files have the same records; 1 they differ; 2 a file could not be read, standard output not
 be written, wrong usage, or the library is missing; 141 the reader of the lines went away, as `head` does.

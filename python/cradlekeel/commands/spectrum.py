@@ -23,7 +23,7 @@ Examples:
 
 The values are scaled so that the largest is 16777215 and rounded to whole numbers; this scaling is not proved, what the
 library makes of the numbers is. The observer is CIE's 2-degree standard observer of 1931. The first run of bin/cradlekeel
-spectrum proves and builds the library (make lib, one to two minutes); later ones start at once.
+spectrum proves and builds the library (make lib, many minutes where nothing is proved yet); later ones start at once.
 
 Exit status: 0 every file is answered, a refusal being an answer; 1 a file could not be read or has a bad row, which a
 message on standard error names, or standard output could not be written; 2 wrong usage, or the library is missing.
