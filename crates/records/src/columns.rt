@@ -63,7 +63,7 @@ pub fn list_length(
     class: &[u8],
 ) -> usize
     ensures length { result ≡ size_of (columns u.now v.now place.now low.now high.now duv.now steps.now class.now) }
-    ensures unchanged { columns u.now v.now place.now low.now high.now duv.now steps.now class.now ≡ columns u.now v.now place.now low.now high.now duv.now steps.now class.now }
+    ensures unchanged { columns u.exit.now v.exit.now place.exit.now low.exit.now high.exit.now duv.exit.now steps.exit.now class.exit.now ≡ columns u.entry.now v.entry.now place.entry.now low.entry.now high.entry.now duv.entry.now steps.entry.now class.entry.now }
 {
     shortest(
         u.len(),
@@ -90,7 +90,7 @@ pub fn list_record(
     i: usize,
 ) -> Record
     ensures record { result ≡ get_or (list_of (columns u.now v.now place.now low.now high.now duv.now steps.now class.now)) i zero_record }
-    ensures unchanged { columns u.now v.now place.now low.now high.now duv.now steps.now class.now ≡ columns u.now v.now place.now low.now high.now duv.now steps.now class.now }
+    ensures unchanged { columns u.exit.now v.exit.now place.exit.now low.exit.now high.exit.now duv.exit.now steps.exit.now class.exit.now ≡ columns u.entry.now v.entry.now place.entry.now low.entry.now high.entry.now duv.entry.now steps.entry.now class.entry.now }
 {
     if i < list_length(u, v, place, low, high, duv, steps, class) {
         return row(u, v, place, low, high, duv, steps, class, i);

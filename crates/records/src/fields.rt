@@ -10,7 +10,7 @@ use crate::bytes::{number_at, put_number, signed_of, unsigned_of};
 
 // A reading's u and v in micro and its answer; every number is as wide as its field in a file that is written.
 #[repr(C)]
-#[derive(Drop)]
+#[derive(Clone, Copy)]
 pub struct Record {
     pub u: u32,
     pub v: u32,

@@ -22,7 +22,7 @@ pub(crate) const MOST_WRITTEN: usize = 3200;
 pub(crate) const TRAILER_LENGTH: usize = 8;
 
 // What the form of a file says: why it cannot be read, or how long its records are and how many it has.
-#[derive(Drop)]
+#[derive(Clone, Copy)]
 pub enum Form {
     Refused(Refusal),
     Records(usize, usize),
@@ -78,7 +78,7 @@ fn trailer_form(record_length: u32, count: u32, back: u32, n: usize) -> Form
 // What the form of a file says.
 pub fn check_form(file: &[u8]) -> Form
     ensures form { result ≡ form_of file.now }
-    ensures unchanged { file.now ≡ file.now }
+    ensures unchanged { file.exit.now ≡ file.entry.now }
 {
     let n = file.len();
     if n < TRAILER_LENGTH {
@@ -107,7 +107,7 @@ fn whole_records(n: usize, record_length: usize) -> usize
 // the record is whole.
 pub fn record_at(bytes: &[u8], record_length: usize, i: usize) -> Record
     ensures record { result ≡ record_at record_length bytes.now i }
-    ensures unchanged { bytes.now ≡ bytes.now }
+    ensures unchanged { bytes.exit.now ≡ bytes.entry.now }
 {
     if !is_known_length(record_length) {
         return ZERO_RECORD;
@@ -121,7 +121,7 @@ pub fn record_at(bytes: &[u8], record_length: usize, i: usize) -> Record
 // Record i of a file, from 0; zeros where the file cannot be read or has no record i.
 pub fn file_record(file: &[u8], i: usize) -> Record
     ensures record { result ≡ get_or (records_of file.now) i zero_record }
-    ensures unchanged { file.now ≡ file.now }
+    ensures unchanged { file.exit.now ≡ file.entry.now }
 {
     match check_form(file) {
         Form::Refused(_) => ZERO_RECORD,

@@ -1,4 +1,6 @@
 // Records of answered readings in a file (document 02, No. 4 and No. 8).
+#![tactic(auto)]
+
 mod bytes;
 mod columns;
 mod fields;

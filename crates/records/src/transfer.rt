@@ -15,7 +15,7 @@ use crate::files::{Form, MOST_WRITTEN, TRAILER_LENGTH, check_form, put_trailer};
 use refusal::Refusal;
 
 // What a writer or a reader did: the refusal, or how many bytes it wrote or records it read.
-#[derive(Drop)]
+#[derive(Clone, Copy)]
 pub enum Outcome {
     Refused(Refusal),
     Done(usize),
@@ -100,7 +100,7 @@ pub fn write_records(
 ) -> Outcome
     ensures outcome { result ≡ write_outcome (size_of (columns u.now v.now place.now low.now high.now duv.now steps.now class.now)) (length file.old) }
     ensures target { file.new ≡ written result (list_of (columns u.now v.now place.now low.now high.now duv.now steps.now class.now)) file.old }
-    ensures unchanged { columns u.now v.now place.now low.now high.now duv.now steps.now class.now ≡ columns u.now v.now place.now low.now high.now duv.now steps.now class.now }
+    ensures unchanged { columns u.exit.now v.exit.now place.exit.now low.exit.now high.exit.now duv.exit.now steps.exit.now class.exit.now ≡ columns u.entry.now v.entry.now place.entry.now low.entry.now high.entry.now duv.entry.now steps.entry.now class.entry.now }
     ensures back { ReadsBack result (list_of (columns u.now v.now place.now low.now high.now duv.now steps.now class.now)) }
 {
     let n = list_length(u, v, place, low, high, duv, steps, class);
@@ -152,7 +152,7 @@ pub fn read_records(
 ) -> Outcome
     ensures outcome { result ≡ read_outcome file.now (size_of (columns u.old v.old place.old low.old high.old duv.old steps.old class.old)) }
     ensures target { columns u.new v.new place.new low.new high.new duv.new steps.new class.new ≡ read_into result file.now (columns u.old v.old place.old low.old high.old duv.old steps.old class.old) }
-    ensures unchanged { file.now ≡ file.now }
+    ensures unchanged { file.exit.now ≡ file.entry.now }
     ensures again { FileOfRecords result file.now }
 {
     match check_form(file) {
