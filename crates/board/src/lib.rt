@@ -1,4 +1,6 @@
 // A board of lots that dispatchers of two houses share (document 02, No. 6 and 11).
+#![tactic(auto)]
+
 ghost use Rattle.std.specs.Prelude.{◌≡◌, [], ◌++◌, map, ◌+◌, ◌≤◌, leb};
 ghost use Rattle.records.specs.Columns.{columns, size_of, list_of};
 ghost use Rattle.board.specs.Table.{most_lots, fresh, reads, assigns};
@@ -15,7 +17,7 @@ const MOST_LOTS: usize = 64;
 const LAST_STAMP: u16 = 65535;
 
 // A house that has lots on the board: ours, or the partner's.
-#[derive(Drop)]
+#[derive(Clone, Copy)]
 pub enum Party {
     Ours,
     Partner,
@@ -23,7 +25,7 @@ pub enum Party {
 
 // A record with what is decided about it.
 #[repr(C)]
-#[derive(Drop)]
+#[derive(Clone, Copy)]
 pub struct Lot {
     pub record: Record,
     // The job that it is assigned to, or 0 for none.
@@ -41,7 +43,7 @@ pub const ZERO_LOT: Lot = Lot {
 
 // The lots in the order of their places, from 0: ours, then the partner's; the slots beyond them are zero.
 #[repr(C)]
-#[derive(Drop)]
+#[derive(Clone, Copy)]
 pub struct Board {
     // How many lots are ours, and how many there are.
     ours: usize,
@@ -50,7 +52,7 @@ pub struct Board {
 }
 
 // What a call is told.
-#[derive(Drop)]
+#[derive(Clone, Copy)]
 pub enum Told {
     // The board is loaded.
     Loaded,
@@ -63,7 +65,7 @@ pub enum Told {
 }
 
 // The board after a call, and what the call is told.
-#[derive(Drop)]
+#[derive(Clone, Copy)]
 pub struct Answered {
     pub board: Board,
     pub told: Told,
@@ -165,8 +167,8 @@ impl Board {
         class2: &[u8],
     ) -> Answered
         ensures answered { result ≡ loaded (list_of (columns u.now v.now place.now low.now high.now duv.now steps.now class.now)) (list_of (columns u2.now v2.now place2.now low2.now high2.now duv2.now steps2.now class2.now)) }
-        ensures unchanged { columns u.now v.now place.now low.now high.now duv.now steps.now class.now ≡ columns u.now v.now place.now low.now high.now duv.now steps.now class.now }
-        ensures theirs_unchanged { columns u2.now v2.now place2.now low2.now high2.now duv2.now steps2.now class2.now ≡ columns u2.now v2.now place2.now low2.now high2.now duv2.now steps2.now class2.now }
+        ensures unchanged { columns u.exit.now v.exit.now place.exit.now low.exit.now high.exit.now duv.exit.now steps.exit.now class.exit.now ≡ columns u.entry.now v.entry.now place.entry.now low.entry.now high.entry.now duv.entry.now steps.entry.now class.entry.now }
+        ensures theirs_unchanged { columns u2.exit.now v2.exit.now place2.exit.now low2.exit.now high2.exit.now duv2.exit.now steps2.exit.now class2.exit.now ≡ columns u2.entry.now v2.entry.now place2.entry.now low2.entry.now high2.entry.now duv2.entry.now steps2.entry.now class2.entry.now }
     {
         let n = records::list_length(u, v, place, low, high, duv, steps, class);
         let m = records::list_length(u2, v2, place2, low2, high2, duv2, steps2, class2);
