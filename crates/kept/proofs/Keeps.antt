@@ -6,7 +6,6 @@ use borrow.Author.Tests.{eq-eqb, ne_eqb}
 use Rattle.records.specs.declared.fields.Record.{Record}
 use Rattle.cct.specs.declared.Answer.{Answer}
 use Rattle.kept.specs.Keeping.{record_of, fits_record, keep}
-use Rattle.kept.specs.declared.Kept.{Kept}
 use Rattle.kept.specs.declared.Kept.TheVariants as is
 
 module _ (u v : ℕ) (a : Answer) where

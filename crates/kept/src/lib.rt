@@ -1,4 +1,6 @@
 // The record of a reading and its answer, as a file keeps it (document 02, No. 4 and No. 8).
+#![tactic(auto)]
+
 ghost use Rattle.std.specs.Prelude.{◌≡◌};
 ghost use Rattle.kept.specs.Keeping.{fits_record, keep};
 
@@ -6,7 +8,7 @@ use cct::Answer;
 use records::Record;
 
 // What is kept of an answer: its record, or nothing, where it is refused or a place of it is too large to be kept.
-#[derive(Drop)]
+#[derive(Clone, Copy)]
 pub enum Kept {
     Kept(Record),
     NotKept,
