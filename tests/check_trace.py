@@ -6,7 +6,8 @@
     `cct/Answers#answer`   the name that Answers.antt of crates/cct defines: in specs, else in specs/Code, else in proofs
     `cct/Answers`          that file
     `cct::answer_micro`    the function, `cct::Type::name` a method, `cct::Type` a type or constant of crates/cct/src
-    `cct@answer_micro`     the function's proof: Proof.antt in the folder of its name in crates/cct/proofs
+    `cct@answer_micro`     the function's proof: what stands in the folder of its name in crates/cct/proofs, and where there is none
+                           what the check finds by itself for a function with a promise, in a crate that has it try its tactics
     `cct!fixed_place`      the must-fail edit crates/cct/must-fail/fixed_place.edit
     `tests/fuzz`           a path
 
@@ -28,6 +29,8 @@ LONGEST_LINE = 200
 TOKEN = re.compile(r"(?P<crate>\w+)(?:/(?P<file>\w+)(?:#(?P<names>.+))?|(?P<mark>::|@|!)(?P<items>.+))")
 
 
+PROOF_FILES = ("Invariants.antt", "Answers.antt", "Proof.antt")
+TACTICS = re.compile(r"^#!\[tactic\(auto\b", re.MULTILINE)
 DECLARED = re.compile(r"(?:pub +)?(?:record|data) +(?P<name>\S+)")
 SIGNED = re.compile(r"(?:(?:abbrev|unfoldable|pub) +)*(?P<name>\S+) +:(?= |$)")
 HOLDS_DEFINITIONS = re.compile(r"(?:pub +)?(?:record|data|module)\b")
@@ -83,9 +86,19 @@ def item_fault(crate, mark, name):
         return source_fault(crate, name)
     if mark == "!":
         return None if (CRATES / crate / "must-fail" / (name + ".edit")).is_file() else "no such must-fail edit"
-    folder = name.split("::")[-1]
-    proofs = [path for path in (CRATES / crate / "proofs").rglob("Proof.antt") if path.parent.name.lstrip("+") == folder]
-    return source_fault(crate, name) or (None if len(proofs) == 1 else "%d proofs of that name" % len(proofs))
+    return source_fault(crate, name) or proof_fault(crate, name)
+
+
+def proof_fault(crate, name):
+    """What is missing of the proof of a function that is there."""
+    files = (path for file in PROOF_FILES for path in (CRATES / crate / "proofs").rglob(file))
+    folders = {path.parent for path in files if path.parent.name.lstrip("+") == name.split("::")[-1]}
+    if len(folders) > 1:
+        return "%d proofs of that name" % len(folders)
+    promises = any(function.ensures for function in functions_of(crate) if function.name == name)
+    roots = (CRATES / crate / "src" / file for file in ("lib.rt", "main.rt"))
+    by_itself = promises and any(TACTICS.search(root.read_text(encoding="utf-8")) for root in roots if root.is_file())
+    return None if folders or by_itself else "no proof of that name, and nothing that is proved without one"
 
 
 def parts(token):
