@@ -1,11 +1,6 @@
-use mathlib.Core.Path.{◌≡◌, refl, sym, ap, ◌∙◌}
-use mathlib.Core.Logic.{⊎_elim}
+use mathlib.Core.Path.{◌≡◌}
 use Prim.Native.Nat.{◌-◌, ◌≤◌}
-use native.Mathlib.Omega.{arith}
-use borrow.Author.Rules.{rules}
-use Rattle.classes.specs.Classes.{holds_all, last_passing, class_count}
-use Rattle.classes.specs.ClassLaws.{last_next}
-use Rattle.classes.proofs.Ends.{holds_ends}
+use Rattle.classes.specs.Classes.{holds_all, last_passing}
 use Rattle.classes.proofs.class_of.Given as goal
 
 abbrev pub invariant-loop-k : goal.invariant-loop-k

@@ -1,5 +1,5 @@
 -- `edges_valid` meets its contract: each flag is the definition's test of the edges passed.
-use Rattle.std.proofs.Common.{◌≡◌, sym, refl, ◌-◌, length, arith, ltb-true, ltb-false}
+use Rattle.std.proofs.Common.{◌≡◌, sym, refl, ◌-◌, length, arith}
 use mathlib.Core.Bool.{and-false}
 use Rattle.std.proofs.lemmas.Bool.{lt-leb}
 use Rattle.classes.specs.Edges.{edges_valid}

@@ -1,14 +1,8 @@
-use mathlib.Core.Path.{◌≡◌, refl, sym}
-use mathlib.Core.Bool.{and-false}
-use mathlib.Core.Logic.{⊎_elim}
+use mathlib.Core.Path.{◌≡◌}
 use Prim.Native.Nat.{◌-◌, ◌≤◌}
-use native.Mathlib.Omega.{arith}
 use lib.ListN.{length, take}
-use borrow.Author.Rules.{rules}
-use borrow.Author.Tests.{lt-leb, ltb-true, ltb-false}
 use Rattle.arith.specs.Every.{every}
-use Rattle.classes.specs.Edges.{neighbours, rises, is_edge, edges_valid}
-use Rattle.classes.specs.EdgeLaws.{rises_next, fits_next, valid_ends}
+use Rattle.classes.specs.Edges.{neighbours, rises, is_edge}
 use Rattle.classes.proofs.edges_valid.Given as goal
 
 abbrev pub invariant-loop-k : goal.invariant-loop-k

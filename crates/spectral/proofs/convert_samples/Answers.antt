@@ -1,7 +1,6 @@
 -- `convert_samples` meets its contract: refusal 9, then refusal 10, then what the sums come to.
-use Rattle.std.proofs.Common.{refl, ap, sym, ◌∙◌}
-use Rattle.spectral.specs.Samples.{divided, of_divided, convert_samples}
-use Rattle.spectral.specs.RefusalLaws.{sound_converted}
+use Rattle.std.proofs.Common.{refl, sym, ◌∙◌}
+use Rattle.spectral.specs.Samples.{convert_samples}
 use Rattle.spectral.proofs.convert_samples.Goals as goal
 
 pub returns-then-not-lengths_good-clause-converts : goal.returns-then-not-lengths_good-clause-converts
