@@ -1,5 +1,4 @@
 -- What the coarse reader answers to what a reading was converted to (document 02, No. 12).
-use Rattle.std.specs.Prelude.{ℕ}
 use Rattle.refusal.specs.Number.{number_of}
 use Rattle.refusal.specs.declared.Refusal.{Refusal}
 use Rattle.reading.specs.declared.Converted.{Converted}

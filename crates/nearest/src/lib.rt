@@ -1,4 +1,6 @@
 // The coarse reader: the nearest ready place to a reading, for a panel that is to divide for no point of the locus.
+#![tactic(auto)]
+
 ghost use Rattle.std.specs.Prelude.{◌≡◌};
 ghost use Rattle.reading.specs.Convert.{convert_reading, convert_micro};
 ghost use Rattle.table.specs.Ready.{ready_table};
@@ -11,7 +13,7 @@ use refusal::Refusal;
 
 // The coarse answer. A refused one has its number, and zero as its place.
 #[repr(C)]
-#[derive(Drop)]
+#[derive(Clone, Copy)]
 pub struct Coarse {
     pub place: u32,
     // 0 where the answer is accepted, else the number of the refusal.
@@ -47,7 +49,7 @@ fn coarse_point(table: &[u32; 3130], u: u32, v: u32) -> Coarse
 pub fn coarse_converted(table: &[u32; 3130], converted: Converted) -> Coarse
     requires { table.now ≡ ready_table }
     ensures answers { result ≡ coarse converted }
-    ensures unchanged { table.now ≡ table.now }
+    ensures unchanged { table.exit.now ≡ table.entry.now }
 {
     match converted {
         Converted::Refused(refusal) => refused_coarse(refusal),

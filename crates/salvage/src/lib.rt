@@ -1,4 +1,6 @@
 // The records of a file that was left without its trailer (document 02, No. 9).
+#![tactic(auto)]
+
 ghost use Rattle.std.specs.Prelude.{◌≡◌, ◌*◌, ◌/◌, ◌≤◌, true, length};
 ghost use Rattle.arith.specs.Same.{same};
 ghost use Rattle.classes.specs.Edges.{edges_valid};
@@ -14,14 +16,14 @@ use records::{Outcome, Record};
 use refusal::Refusal;
 
 // What a salvage came to: the refusal, or how many records are kept, how many are dropped, and how many bytes are left over.
-#[derive(Drop)]
+#[derive(Clone, Copy)]
 pub enum Salvaged {
     Refused(Refusal),
     Done(usize, usize, usize),
 }
 
 // Whether the targets have room.
-#[derive(Drop)]
+#[derive(Clone, Copy)]
 enum Room {
     Refused(Refusal),
     Enough,
@@ -188,7 +190,7 @@ pub fn salvage(
     ensures outcome { result ≡ salvage_outcome edges.now record_length bytes.now (length file.old) (length dropped.old) }
     ensures file { file.new ≡ file_into result edges.now record_length bytes.now file.old }
     ensures list { dropped.new ≡ dropped_into result edges.now record_length bytes.now dropped.old }
-    ensures unchanged { (bytes.now ≡ bytes.now) × (edges.now ≡ edges.now) }
+    ensures unchanged { (bytes.exit.now ≡ bytes.entry.now) × (edges.exit.now ≡ edges.entry.now) }
     ensures back { KeptBack result edges.now record_length bytes.now }
 {
     if !classes::edges_valid(edges) {
