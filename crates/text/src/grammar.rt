@@ -3,7 +3,7 @@ ghost use Rattle.std.specs.Prelude.{◌≡◌, ◌≤◌};
 ghost use Rattle.text.specs.Code.Scan.{empty_scan, bad_scan, scan_space, scan_digit, scan_byte, is_empty, scan_line};
 
 // What a line says.
-#[derive(Drop)]
+#[derive(Clone, Copy)]
 pub(crate) enum Line {
     // Refusal 8.
     Unreadable,
@@ -24,7 +24,7 @@ pub(crate) const DIGIT_ZERO: u8 = b'0';
 const DIGIT_NINE: u8 = b'9';
 
 // A line as far as it has been read: the number being read, with how many digits are read, and the two before it.
-#[derive(Drop)]
+#[derive(Clone, Copy)]
 pub struct Scan {
     earlier: u32,
     previous: u32,

@@ -10,7 +10,7 @@ use crate::print;
 // Room for any answer with its newline.
 pub const LINE_ROOM: usize = 80;
 
-#[derive(Drop)]
+#[derive(Clone, Copy)]
 struct Next {
     scan: Scan,
     written: usize,
@@ -38,7 +38,7 @@ fn take_byte(scan: Scan, x: u8, out: &mut [u8], at: usize) -> Next
 }
 
 // What a block of input came to: the line so far, the bytes read and the bytes written.
-#[derive(Drop)]
+#[derive(Clone, Copy)]
 pub struct Done {
     pub scan: Scan,
     pub read: usize,
@@ -48,7 +48,7 @@ pub struct Done {
 // A block of the input, as far as there is room for its output.
 pub fn block(scan: Scan, input: &[u8], out: &mut [u8]) -> Done
     ensures result { Blocked scan input.now out.old out.new result }
-    ensures unchanged { input.now ≡ input.now }
+    ensures unchanged { input.exit.now ≡ input.entry.now }
 {
     let mut s = scan;
     let mut i: usize = 0;
