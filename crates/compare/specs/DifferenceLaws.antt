@@ -23,6 +23,7 @@ place_in (x ∷ l) zero d h = Memᴰ.head refl
 place_in (x ∷ l) (suc j) d h = Memᴰ.tail (place_in l j d (omega arith))
 
 in_place : {A : Type 0} {a : A} (l : List A) (d : A) → Memᴰ a l → (j : ℕ) × (j < length l) × (get_or l j d ≡ a)
+in_place [] d m = elim m [ ]
 in_place (x ∷ l) d (Memᴰ.head e) = (0, omega arith, sym e)
 in_place (x ∷ l) d (Memᴰ.tail m) = let r = in_place l d m in (suc r.0, omega (arith, r.1), r.2)
 

@@ -51,10 +51,10 @@ module _ {A B : Type 0} (f : ℕ → A → A → List B) where
   pub in_step_from : {e : B} (i : ℕ) (xs ys : List A) (d : A) → Memᴰ e (in_step f i xs ys) → From i xs ys d e
   in_step_from i [] ys d m = absurd (Memᴰ.not-nil m)
   in_step_from i (x ∷ xs) [] d m = absurd (Memᴰ.not-nil m)
-  in_step_from i (x ∷ xs) (y ∷ ys) d m =
+  in_step_from {e = e} i (x ∷ xs) (y ∷ ys) d m =
       ⊎_elim
       (λ k. record { place = 0; in_first = omega arith; in_second = omega arith; given = rw add-zero k })
-      (λ k. let r = in_step_from (suc i) xs ys d k in
+      (λ k. let r = in_step_from {e = e} (suc i) xs ys d k in
       let on : suc i + r.place ≡ i + suc r.place = omega arith in
       record { place = suc r.place; in_first = omega (arith, r.in_first); in_second = omega (arith, r.in_second); given = rw on at r.given })
       (Memᴰ.append_cases (f i x y) m)

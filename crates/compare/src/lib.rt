@@ -1,4 +1,6 @@
 // The differences of two record files (document 02, No. 7 and No. 8).
+#![tactic(auto)]
+
 mod contents;
 mod entries;
 
@@ -23,7 +25,7 @@ const ONLY_FIRST: usize = 8;
 const ONLY_SECOND: usize = 9;
 
 // What a comparison came to.
-#[derive(Drop)]
+#[derive(Clone, Copy)]
 pub enum Compared {
     // The first file cannot be read.
     FirstRefused(Refusal),
@@ -156,7 +158,7 @@ fn list_all(
 pub fn compare_files(first: &[u8], second: &[u8], target: &mut [i64]) -> Compared
     ensures outcome { result ≡ compare_outcome first.now second.now (length target.old) }
     ensures target { target.new ≡ listed_into result first.now second.now target.old }
-    ensures unchanged { (first.now ≡ first.now) × (second.now ≡ second.now) }
+    ensures unchanged { (first.exit.now ≡ first.entry.now) × (second.exit.now ≡ second.entry.now) }
 {
     match records::check_form(first) {
         Form::Refused(refusal) => Compared::FirstRefused(refusal),
