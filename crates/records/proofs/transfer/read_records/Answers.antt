@@ -1,4 +1,4 @@
-use Rattle.std.proofs.Common.{◌≡◌, sym}
+use Rattle.std.proofs.Common.{◌≡◌, sym, arith}
 use Rattle.records.specs.Columns.{Columns, columns, size_of}
 use Rattle.records.specs.Files.{form_of}
 use Rattle.records.specs.declared.files.Form.TheVariants.{Records}
@@ -20,7 +20,7 @@ form_is s = sym s.in-Records.ensures.form
 pub fill_rows-requires : goal.fill_rows-requires
 fill_rows-requires c =
     let k = (goal.at.fill_rows-requires c).After-shortest-room in
-    (long_enough (size k) c.if-room-n.false, known_read c.args.file.now _ _ (size_of (given k)) (form_is k), file_holds c.args.file.now _ _ (size_of (given k)) (form_is k))
+    (long_enough (size k) (omega arith), known_read c.args.file.now _ _ (size_of (given k)) (form_is k), file_holds c.args.file.now _ _ (size_of (given k)) (form_is k))
 
 pub returns-then-room-n-clause-outcome : goal.returns-then-room-n-clause-outcome
 returns-then-room-n-clause-outcome c =
