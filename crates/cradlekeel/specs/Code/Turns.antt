@@ -4,7 +4,7 @@
 -- the turn is `Failed` only where a write failed; `main` begins with no line, reads on with the line carried on, and finishes the last.
 use Rattle.std.specs.Prelude.{ℕ, zero, suc, ◌≡◌, Bool, cond, List, ◌⊎◌, Result, Ok, Err, length, take, min}
 use Rattle.std.specs.Io.{ReadsAtMost}
-use Rattle.std_io.specs.declared.io.error.Error.{Error}
+use Rattle.std.specs.declared.io.Error.{Error}
 use Rattle.text.specs.declared.grammar.Scan.{Scan}
 use Rattle.text.specs.Block.{leaves}
 use Rattle.cradlekeel.specs.declared.Turn.{Turn}
