@@ -23,7 +23,7 @@ enum Turn {
     More(Scan),
     // The input has ended.
     Ended,
-    // The input cannot be read or the output cannot be written, as standard error says.
+    // The input cannot be read or the output cannot be written, as standard error says where anybody still reads the output.
     Failed,
 }
 
