@@ -1,9 +1,14 @@
 -- Tests that the code makes together, in the words of the definitions.
-use Rattle.std.proofs.Common.{◌≡◌, Bool, true, ◌&&◌, sym, ◌∙◌}
+use Rattle.std.proofs.Common.{◌≡◌, Bool, true, not, ◌&&◌, sym, ap, ◌∙◌}
+use mathlib.Core.Bool.{not-not}
 use Rattle.arith.specs.TestLaws.{and_both}
 
 pub join : {a b p q : Bool} → a ≡ p → b ≡ q → a && b ≡ p && q
 join e f = cc
+
+-- what a branch on `!a` says of p
+pub negated : {a p t : Bool} → a ≡ p → not a ≡ t → p ≡ not t
+negated {a} e h = sym e ∙ sym (not-not a) ∙ ap not h
 
 -- of two tests, and of three, that both hold
 pub passed : {a b p q : Bool} → a ≡ p → b ≡ q → a && b ≡ true → (p ≡ true) × (q ≡ true)

@@ -1,5 +1,5 @@
 -- `fill_16` is safe and ends: the numbers left fall at each turn, and the column keeps its length.
-use Rattle.std.proofs.Common.{◌-◌, ◌≡◌, ℕ, ◌+◌, ◌*◌, ◌<◌, ◌≤◌, length}
+use Rattle.std.proofs.Common.{◌-◌, ◌≡◌, ◌≤◌, length}
 use Rattle.vectors.proofs.columns.fill_16.Given as goal
 
 abbrev pub invariant-loop-i : goal.invariant-loop-i

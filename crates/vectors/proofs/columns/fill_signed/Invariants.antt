@@ -1,5 +1,5 @@
 -- `fill_signed` is safe and ends: the numbers left fall at each turn, and the column keeps its length.
-use Rattle.std.proofs.Common.{◌-◌, ◌≡◌, ℕ, ◌+◌, ◌*◌, ◌<◌, ◌≤◌, length, ℤ, pos, ◌+ℤ◌, ◌-ℤ◌, ◌*ℤ◌, ◌≤ℤ◌, ◌<ℤ◌, FitsSigned, to_z, of_z}
+use Rattle.std.proofs.Common.{◌-◌, ◌≡◌, ◌≤◌, length}
 use Rattle.vectors.proofs.columns.fill_signed.Given as goal
 
 abbrev pub invariant-loop-i : goal.invariant-loop-i

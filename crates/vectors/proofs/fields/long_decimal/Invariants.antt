@@ -1,5 +1,5 @@
 -- `long_decimal` is safe and ends: what is left of the text falls at each turn.
-use Rattle.std.proofs.Common.{length, ◌-◌, ◌<◌, ◌≤◌, ◌≡◌, ℕ, ◌+◌, ◌*◌}
+use Rattle.std.proofs.Common.{length, ◌-◌, ◌≤◌}
 use Rattle.vectors.proofs.fields.long_decimal.Given as goal
 
 abbrev pub invariant-loop-i : goal.invariant-loop-i

@@ -1,5 +1,5 @@
 -- `numbers` counts at most 64: each byte keeps the bound.
-use Rattle.std.proofs.Common.{length, ◌-◌, ◌<◌, ◌≤◌, ◌≡◌, ℕ, ◌+◌, ◌*◌}
+use Rattle.std.proofs.Common.{length, ◌-◌, ◌≤◌}
 use Rattle.vectors.proofs.fields.numbers.Given as goal
 
 abbrev pub invariant-loop-i : goal.invariant-loop-i

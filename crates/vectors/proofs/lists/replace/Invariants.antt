@@ -1,5 +1,5 @@
 -- `replace` is safe and ends: each turn goes on to a later space or to the end of the text.
-use Rattle.std.proofs.Common.{length, ◌-◌, ◌<◌, ◌≤◌, ◌≡◌, ℕ, ◌+◌, ◌*◌}
+use Rattle.std.proofs.Common.{length, ◌-◌, ◌≤◌}
 use Rattle.vectors.proofs.lists.replace.Given as goal
 
 abbrev pub invariant-loop-i : goal.invariant-loop-i

@@ -1,5 +1,5 @@
 -- `pattern` is safe and ends: the numbers left fall at each turn.
-use Rattle.std.proofs.Common.{◌-◌, ◌<◌, ◌≡◌, ℕ, ◌+◌, ◌*◌, ◌≤◌, length}
+use Rattle.std.proofs.Common.{◌-◌, ◌≤◌}
 use Rattle.vectors.proofs.targets.pattern.Given as goal
 
 abbrev pub invariant-loop-i : goal.invariant-loop-i

@@ -1,5 +1,5 @@
 -- `sum_bytes` is safe and ends: the bytes left fall at each turn, and the checksum stays below its modulus.
-use Rattle.std.proofs.Common.{◌-◌, ◌<◌, ◌≡◌, ℕ, ◌+◌, ◌*◌, ◌≤◌, length}
+use Rattle.std.proofs.Common.{◌-◌, ◌<◌, ◌≤◌}
 use Rattle.vectors.proofs.targets.sum_bytes.Given as goal
 
 abbrev pub invariant-loop-i : goal.invariant-loop-i

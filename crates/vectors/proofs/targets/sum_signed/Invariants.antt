@@ -1,5 +1,5 @@
 -- `sum_signed` is safe and ends: the numbers left fall at each turn, and the checksum stays below its modulus.
-use Rattle.std.proofs.Common.{◌-◌, ◌<◌, ◌≡◌, ℕ, ◌+◌, ◌*◌, ◌≤◌, length, ℤ, pos, ◌+ℤ◌, ◌-ℤ◌, ◌*ℤ◌, ◌≤ℤ◌, ◌<ℤ◌, FitsSigned, to_z, of_z}
+use Rattle.std.proofs.Common.{◌-◌, ◌<◌, ◌≤◌}
 use Rattle.vectors.proofs.targets.sum_signed.Given as goal
 
 abbrev pub invariant-loop-i : goal.invariant-loop-i

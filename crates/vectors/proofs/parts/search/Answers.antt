@@ -1,0 +1,10 @@
+-- The search runs only about an admitted reading's nearest entry, which is one of the 24.
+use Rattle.std.proofs.Common.{sym, ◌∙◌}
+use Rattle.locus.specs.AdmissionLaws.{admitted_near}
+use Rattle.vectors.proofs.parts.search.Goals as goal
+
+pub span_about-span-requires : goal.span_about-span-requires
+span_about-span-requires c =
+    let a = c.args in
+    let n = admitted_near a.u a.v _ _ (sym c.admit.ensures.answers ∙ c.in-Near.is) in
+    (c.table_u-us.ensures, c.table_v-vs.ensures, n.first, n.last)
