@@ -17,7 +17,7 @@ import sys
 NAME = r"[A-Za-z0-9_'₀-₉-]+"
 TOKEN = re.compile(r"(?<![A-Za-z0-9_'₀-₉-])" + NAME)
 DECLARED = re.compile(r"^(?:(?:pub|abbrev|unfoldable|open)\s+)*(" + NAME + r")\s*:(?!=)", re.M)
-FIELD = re.compile(r"^\s+(?:pub\s+)?(" + NAME + r")\s+:\s", re.M)
+FIELD = re.compile(r"^\s+(?:(?:pub|abbrev|unfoldable)\s+)*(" + NAME + r")\s+:\s", re.M)
 BOUND = re.compile(r"\blet\s+(" + NAME + r")\b|[({](" + NAME + r"(?:\s+" + NAME + r")*)\s+:\s|λ\s+((?:" + NAME + r"\s*)+)\.")
 USE = re.compile(r"^(?:ghost |pub )*use ([^\s{;]+)\.\{([^}]*)\}", re.M)
 

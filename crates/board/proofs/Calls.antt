@@ -77,12 +77,12 @@ module _ (b : Board) where
               ∙ ap (λ (k : ℕ). set t p x ++ drop k b.lots) (sym (length-set t p x))
 
           -- the board with the lot that the code stores
-          abbrev storedWith : ℕ → Board
-          storedWith s = record { ours = b.ours; count = b.count; lots = set b.lots p (record { «record» = (slot_at b p).«record»; job = job; stamp = s + 1 }) }
+          abbrev stored_with : ℕ → Board
+          stored_with s = record { ours = b.ours; count = b.count; lots = set b.lots p (record { «record» = (slot_at b p).«record»; job = job; stamp = s + 1 }) }
 
-          pub assign_stored : (stamp ≡ last_stamp → ⊥) → record { board = storedWith stamp; told = Stored } ≡ handed b (assigns w p stamp job)
+          pub assign_stored : (stamp ≡ last_stamp → ⊥) → record { board = stored_with stamp; told = Stored } ≡ handed b (assigns w p stamp job)
           assign_stored l =
               let d = rule_told may (table_of b) (assigns w p stamp job) Stored (stored w p stamp job h (e ∙ sym stamp_is) l) in
-              ap (λ (s : ℕ). record { board = storedWith s; told = Stored }) e
+              ap (λ (s : ℕ). record { board = stored_with s; told = Stored }) e
               ∙ ap (λ (z : List Lot). record { board = record { ours = b.ours; count = b.count; lots = z }; told = Stored }) slots_stored
               ∙ ap (λ (x : Told). record { board = with_table b (put (is_stored x) (table_of b) p job); told = x }) (sym d)

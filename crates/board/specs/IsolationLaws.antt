@@ -14,7 +14,7 @@ use Rattle.board.specs.declared.Lot.{Lot}
 use Rattle.board.specs.declared.Board.{Board}
 use Rattle.board.specs.declared.Told.TheVariants.{Loaded, Refused}
 use Rattle.board.specs.declared.Answered.{Answered}
-use Rattle.board.specs.Table.{most_lots, zero_lot, fresh, load_told, lot_at, Call, caller, reaches, tell, next, tableAfter, answers}
+use Rattle.board.specs.Table.{most_lots, zero_lot, fresh, load_told, lot_at, Call, caller, reaches, tell, next, table_after, answers}
 use Rattle.board.specs.TableLaws.{after_length}
 use Rattle.board.specs.Boards.{board_of, owns, board_after, told_in}
 use Rattle.board.specs.RuleLaws.{is_refused, load_taken, table_length, ours_reach, theirs_reach}
@@ -34,7 +34,7 @@ behind first l = replicate first zero_lot ++ l
 
 -- what calls are told there, one after the other, and the lots at the end
 abbrev view_behind : (first : ℕ) → List Lot → List (Call Party) → View
-view_behind first l cs = record { told = answers (from first) (behind first l) cs; lots = drop first (tableAfter (from first) (behind first l) cs) }
+view_behind first l cs = record { told = answers (from first) (behind first l) cs; lots = drop first (table_after (from first) (behind first l) cs) }
 
 -- the view that a house's part by itself gives
 abbrev pub alone : Part → View
@@ -69,13 +69,13 @@ module _ (n k : ℕ) (w : Party) where
           λ i. d i ∷ r i
       go false e rest = rest (next (owns n) t c) t' (other_alike (owns n) (from k) w t t' a c (apart n w (caller c) e))
 
-  after_alone : (t t' : List Lot) → Alike (owns n) (from k) w t t' → (cs : List (Call Party)) → Alike (owns n) (from k) w (tableAfter (owns n) t cs) (tableAfter (from k) t' (calls_of w cs))
+  after_alone : (t t' : List Lot) → Alike (owns n) (from k) w t t' → (cs : List (Call Party)) → Alike (owns n) (from k) w (table_after (owns n) t cs) (table_after (from k) t' (calls_of w cs))
   after_alone t t' a [] = a
   after_alone t t' a (c ∷ cs) = go (is_own w c) refl (λ u u' b. after_alone u u' b cs)
     where
       go : (b : Bool) → is_own w c ≡ b →
-          ((u u' : List Lot) → Alike (owns n) (from k) w u u' → Alike (owns n) (from k) w (tableAfter (owns n) u cs) (tableAfter (from k) u' (calls_of w cs))) →
-          Alike (owns n) (from k) w (tableAfter (owns n) (next (owns n) t c) cs) (tableAfter (from k) t' (cond b (c ∷ calls_of w cs) (calls_of w cs)))
+          ((u u' : List Lot) → Alike (owns n) (from k) w u u' → Alike (owns n) (from k) w (table_after (owns n) u cs) (table_after (from k) u' (calls_of w cs))) →
+          Alike (owns n) (from k) w (table_after (owns n) (next (owns n) t c) cs) (table_after (from k) t' (cond b (c ∷ calls_of w cs) (calls_of w cs)))
       go true e rest = rest (next (owns n) t c) (next (from k) t' c) (own_alike (owns n) (from k) w t t' a c (own_caller w (caller c) e))
       go false e rest = rest (next (owns n) t c) t' (other_alike (owns n) (from k) w t t' a c (apart n w (caller c) e))
 
@@ -106,10 +106,10 @@ module _ (n : ℕ) (w : Party) (first : ℕ) (l t : List Lot) where
         }
 
     -- and its lots stand there at the end
-    stands_end : (cs : List (Call Party)) → take (length l) (drop first (tableAfter (owns n) t cs)) ≡ drop first (tableAfter (from first) (behind first l) (calls_of w cs))
+    stands_end : (cs : List (Call Party)) → take (length l) (drop first (table_after (owns n) t cs)) ≡ drop first (table_after (from first) (behind first l) (calls_of w cs))
     stands_end cs =
-        let end = tableAfter (owns n) t cs in
-        let own = tableAfter (from first) (behind first l) (calls_of w cs) in
+        let end = table_after (owns n) t cs in
+        let own = table_after (from first) (behind first l) (calls_of w cs) in
         let a = after_alone n first w t (behind first l) stands_alike cs in
         let k = after_length (owns n) t cs in
         let m = after_length (from first) (behind first l) (calls_of w cs) ∙ behind_length in
@@ -184,7 +184,7 @@ fits rs e = go (leb (length rs) most_lots) refl (ap is_refused e)
 
 -- the table of both loads at the end of a day
 abbrev end_of : Day → List Lot
-end_of d = tableAfter (owns (length d.ours)) (both d.ours d.theirs) d.calls
+end_of d = table_after (owns (length d.ours)) (both d.ours d.theirs) d.calls
 
 -- a house that stands on the table of the loads has the view that its lots alone give it
 module _ (w : Party) (d : Day) (first : ℕ) (l : List Lot) (h : Stands (length d.ours) w first l (both d.ours d.theirs)) where

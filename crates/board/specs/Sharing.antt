@@ -5,12 +5,12 @@ use Rattle.records.specs.declared.fields.Record.{Record}
 use Rattle.board.specs.declared.Party.{Party}
 use Rattle.board.specs.declared.Board.{Board}
 use Rattle.board.specs.declared.Told.TheVariants.{Stored, Refused}
-use Rattle.board.specs.Table.{last_stamp, with_job, table_from, lot_at, Call, assigns, tableAfter, answers, Untouched}
+use Rattle.board.specs.Table.{last_stamp, with_job, table_from, lot_at, Call, assigns, table_after, answers, Untouched}
 use Rattle.board.specs.Boards.{board_of, table_of, ours_from, owns, loaded, handed, board_after, told_in}
 
 -- a history of calls from a load gives, in board and answers, what the table of both lists gives
 pub record History (ours theirs : List Record) (cs : List (Call Party)) : Type 0 where
-  pub board : board_after (loaded ours theirs).board cs ≡ board_of (ours_from ours theirs) (tableAfter (owns (ours_from ours theirs)) (table_from (ours ++ theirs)) cs)
+  pub board : board_after (loaded ours theirs).board cs ≡ board_of (ours_from ours theirs) (table_after (owns (ours_from ours theirs)) (table_from (ours ++ theirs)) cs)
   pub told : told_in (loaded ours theirs).board cs ≡ answers (owns (ours_from ours theirs)) (table_from (ours ++ theirs)) cs
 
 -- two calls on a board give the same board in either order, and each is told the same
@@ -25,14 +25,14 @@ module _ (b : Board) (w : Party) (p i : ℕ) (xs ys : List (Call Party)) where
   seen = (lot_at (table_of b) p).stamp
 
   -- the board as the first of them finds it and leaves it, and as the second finds it
-  abbrev pub atFirst : Board
-  atFirst = board_after b xs
+  abbrev pub at_first : Board
+  at_first = board_after b xs
 
-  abbrev pub afterFirst : Board
-  afterFirst = (handed atFirst (assigns w p seen i)).board
+  abbrev pub after_first : Board
+  after_first = (handed at_first (assigns w p seen i)).board
 
-  abbrev pub atSecond : Board
-  atSecond = board_after afterFirst ys
+  abbrev pub at_second : Board
+  at_second = board_after after_first ys
 
   -- the place is their house's, it has a lot, its stamp is under 65,535, and no other call stores a job there
   pub record Holders : Type 0 where
@@ -40,10 +40,10 @@ module _ (b : Board) (w : Party) (p i : ℕ) (xs ys : List (Call Party)) where
     pub place : p < length (table_of b)
     pub under : seen < last_stamp
     pub before : Untouched (owns b.ours) p (table_of b) xs
-    pub between : Untouched (owns afterFirst.ours) p (table_of afterFirst) ys
+    pub between : Untouched (owns after_first.ours) p (table_of after_first) ys
 
   -- the first is stored, the second, with job j, is told the stamp that is now current, and the lot has the first's job
   pub record FirstStored (j : ℕ) : Type 0 where
-    pub first : (handed atFirst (assigns w p seen i)).told ≡ Stored
-    pub second : (handed atSecond (assigns w p seen j)).told ≡ Refused StaleStamp (seen + 1)
-    pub lot : lot_at (table_of (handed atSecond (assigns w p seen j)).board) p ≡ with_job (lot_at (table_of b) p) i
+    pub first : (handed at_first (assigns w p seen i)).told ≡ Stored
+    pub second : (handed at_second (assigns w p seen j)).told ≡ Refused StaleStamp (seen + 1)
+    pub lot : lot_at (table_of (handed at_second (assigns w p seen j)).board) p ≡ with_job (lot_at (table_of b) p) i

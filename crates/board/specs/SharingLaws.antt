@@ -11,7 +11,7 @@ use Rattle.board.specs.declared.Lot.{Lot}
 use Rattle.board.specs.declared.Board.{Board}
 use Rattle.board.specs.declared.Told.{Told}
 use Rattle.board.specs.declared.Told.TheVariants.{Stored, Refused}
-use Rattle.board.specs.Table.{most_lots, zero_lot, with_job, table_from, lot_at, Call, assigns, tell, next, tableAfter, answers, Untouched}
+use Rattle.board.specs.Table.{most_lots, zero_lot, with_job, table_from, lot_at, Call, assigns, tell, next, table_after, answers, Untouched}
 use Rattle.board.specs.TableLaws.{next_length, told_after, swap, stored_lot, after_length, lot_after}
 use Rattle.board.specs.Boards.{board_of, table_of, with_table, ours_from, owns, handed, board_after, told_in}
 use Rattle.board.specs.Rules.{Reached, stale, stored}
@@ -64,14 +64,14 @@ pub refused_board : (b : Board) (c : Call Party) (r : Refusal) (s : ℕ) → (ha
 refused_board b c r s e = ap (with_table b) (refused_next (owns b.ours) (table_of b) c r s e) ∙ with_own b
 
 -- a history from any board, through its table
-pub after_is : (b : Board) (cs : List (Call Party)) → board_after b cs ≡ with_table b (tableAfter (owns b.ours) (table_of b) cs)
+pub after_is : (b : Board) (cs : List (Call Party)) → board_after b cs ≡ with_table b (table_after (owns b.ours) (table_of b) cs)
 after_is b [] = sym (with_own b)
 after_is b (c ∷ cs) =
     let may = owns b.ours in
     let t = next may (table_of b) c in
     after_is (with_table b t) cs
-    ∙ ap (λ (z : List Lot). with_table (with_table b t) (tableAfter may z cs)) (table_next b c)
-    ∙ with_with b t (tableAfter may t cs) (after_length may t cs)
+    ∙ ap (λ (z : List Lot). with_table (with_table b t) (table_after may z cs)) (table_next b c)
+    ∙ with_with b t (table_after may t cs) (after_length may t cs)
 
 pub told_is : (b : Board) (cs : List (Call Party)) → told_in b cs ≡ answers (owns b.ours) (table_of b) cs
 told_is b [] = refl
@@ -80,21 +80,21 @@ told_is b (c ∷ cs) =
     let t = next may (table_of b) c in
     ap (λ (z : List Told). tell may (table_of b) c ∷ z) (told_is (with_table b t) cs ∙ ap (λ (z : List Lot). answers may z cs) (table_next b c))
 
-pub table_after : (b : Board) (cs : List (Call Party)) → table_of (board_after b cs) ≡ tableAfter (owns b.ours) (table_of b) cs
-table_after b cs =
+pub table_after_lem : (b : Board) (cs : List (Call Party)) → table_of (board_after b cs) ≡ table_after (owns b.ours) (table_of b) cs
+table_after_lem b cs =
     let may = owns b.ours in
-    ap table_of (after_is b cs) ∙ table_with b (tableAfter may (table_of b) cs) (after_length may (table_of b) cs)
+    ap table_of (after_is b cs) ∙ table_with b (table_after may (table_of b) cs) (after_length may (table_of b) cs)
 
 -- a history leaves the places to the houses that have them
 pub after_ours : (b : Board) (cs : List (Call Party)) → (board_after b cs).ours ≡ b.ours
 after_ours b cs = ap (λ (z : Board). z.ours) (after_is b cs)
 
 -- and from the board of a table
-pub after_board : (n : ℕ) (t : List Lot) (cs : List (Call Party)) → board_after (board_of n t) cs ≡ board_of n (tableAfter (owns n) t cs)
+pub after_board : (n : ℕ) (t : List Lot) (cs : List (Call Party)) → board_after (board_of n t) cs ≡ board_of n (table_after (owns n) t cs)
 after_board n t cs =
     after_is (board_of n t) cs
-    ∙ ap (λ (z : List Lot). with_table (board_of n t) (tableAfter (owns n) z cs)) (table_board n t)
-    ∙ with_board n t (tableAfter (owns n) t cs) (after_length (owns n) t cs)
+    ∙ ap (λ (z : List Lot). with_table (board_of n t) (table_after (owns n) z cs)) (table_board n t)
+    ∙ with_board n t (table_after (owns n) t cs) (after_length (owns n) t cs)
 
 pub told_board : (n : ℕ) (t : List Lot) (cs : List (Call Party)) → told_in (board_of n t) cs ≡ answers (owns n) t cs
 told_board n t cs = told_is (board_of n t) cs ∙ ap (λ (z : List Lot). answers (owns n) z cs) (table_board n t)
@@ -119,11 +119,11 @@ commute b v w p q r s i j f =
 
 -- after calls that store nothing there a place has the lot that it had, and it is reached as before
 kept_lot : (b : Board) (cs : List (Call Party)) (p : ℕ) → Untouched (owns b.ours) p (table_of b) cs → lot_at (table_of (board_after b cs)) p ≡ lot_at (table_of b) p
-kept_lot b cs p f = ap (λ (z : List Lot). lot_at z p) (table_after b cs) ∙ lot_after (owns b.ours) (table_of b) cs p f
+kept_lot b cs p f = ap (λ (z : List Lot). lot_at z p) (table_after_lem b cs) ∙ lot_after (owns b.ours) (table_of b) cs p f
 
 kept_place : (b : Board) (cs : List (Call Party)) (w : Party) (p : ℕ) → Reached (owns b.ours) (table_of b) w p → Reached (owns (board_after b cs).ours) (table_of (board_after b cs)) w p
 kept_place b cs w p h =
-    record { allowed = ap (λ (n : ℕ). owns n w p) (after_ours b cs) ∙ h.allowed; place = omega (arith, h.place, ap length (table_after b cs), after_length (owns b.ours) (table_of b) cs) }
+    record { allowed = ap (λ (n : ℕ). owns n w p) (after_ours b cs) ∙ h.allowed; place = omega (arith, h.place, ap length (table_after_lem b cs), after_length (owns b.ours) (table_of b) cs) }
 
 pub first_stored : (b : Board) (w : Party) (p i : ℕ) (xs ys : List (Call Party)) → Holders b w p i xs ys → (j : ℕ) → FirstStored b w p i xs ys j
 first_stored b w p i xs ys h j =

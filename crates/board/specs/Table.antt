@@ -84,9 +84,9 @@ module _ {Who : Type 0} (may : Who → ℕ → Bool) where
   next t (assigns w p stamp job) = put (is_stored (tell t (assigns w p stamp job))) t p job
 
   -- the table after a history of calls, and what they are told, each in its turn
-  abbrev pub tableAfter : List Lot → List (Call Who) → List Lot
-  tableAfter t [] = t
-  tableAfter t (c ∷ cs) = tableAfter (next t c) cs
+  abbrev pub table_after : List Lot → List (Call Who) → List Lot
+  table_after t [] = t
+  table_after t (c ∷ cs) = table_after (next t c) cs
 
   abbrev pub answers : List Lot → List (Call Who) → List Told
   answers t [] = []

@@ -5,7 +5,7 @@ use Rattle.std.proofs.lemmas.List.{set_comm}
 use Rattle.board.specs.declared.Lot.{Lot}
 use Rattle.board.specs.declared.Told.{Told}
 use Rattle.board.specs.declared.Told.TheVariants.{Stored}
-use Rattle.board.specs.Table.{zero_lot, with_job, lot_at, Call, reads, assigns, is_stored, put, tell, next, tableAfter, Spares, Untouched}
+use Rattle.board.specs.Table.{zero_lot, with_job, lot_at, Call, reads, assigns, is_stored, put, tell, next, table_after, Spares, Untouched}
 
 put_length : (b : Bool) (t : List Lot) (p job : ℕ) → length (put b t p job) ≡ length t
 put_length true t p job = length-set t p (with_job (lot_at t p) job)
@@ -56,10 +56,10 @@ module _ {Who : Type 0} (may : Who → ℕ → Bool) where
   stored_lot t w p stamp job h e = ap (λ (d : Told). lot_at (put (is_stored d) t p job) p) e ∙ get_or-set_same t p (with_job (lot_at t p) job) zero_lot h
 
   -- a history leaves the number of lots, and the lot of a place that it does not touch
-  pub after_length : (t : List Lot) (cs : List (Call Who)) → length (tableAfter may t cs) ≡ length t
+  pub after_length : (t : List Lot) (cs : List (Call Who)) → length (table_after may t cs) ≡ length t
   after_length t [] = refl
   after_length t (c ∷ cs) = after_length (next may t c) cs ∙ next_length t c
 
-  pub lot_after : (t : List Lot) (cs : List (Call Who)) (p : ℕ) → Untouched may p t cs → lot_at (tableAfter may t cs) p ≡ lot_at t p
+  pub lot_after : (t : List Lot) (cs : List (Call Who)) (p : ℕ) → Untouched may p t cs → lot_at (table_after may t cs) p ≡ lot_at t p
   lot_after t [] p f = refl
   lot_after t (c ∷ cs) p f = lot_after (next may t c) cs p f.1 ∙ next_spares t c p f.0

@@ -34,13 +34,13 @@ kept_least d place {best} y = rw y (chosen d (ltb (d place) (d best)) place best
 -- a step
 module _ (d : ℕ → ℕ) (m j : ℕ) (p : Progress) (h : j ≤ most_steps) (k : Tracks d m j p) where
   -- rule 4's two ways
-  abbrev leftState : State
-  leftState = record { low = p.low; high = inner_high (pieces m) j p.low; best = nearer d (inner_low (pieces m) (j + 1) p.low) p.best }
+  abbrev left_state : State
+  left_state = record { low = p.low; high = inner_high (pieces m) j p.low; best = nearer d (inner_low (pieces m) (j + 1) p.low) p.best }
 
-  abbrev rightState : State
-  rightState = record { low = inner_low (pieces m) j p.low; high = (state_of p).high; best = nearer d (inner_high (pieces m) (j + 1) (inner_low (pieces m) j p.low)) p.best }
+  abbrev right_state : State
+  right_state = record { low = inner_low (pieces m) j p.low; high = (state_of p).high; best = nearer d (inner_high (pieces m) (j + 1) (inner_low (pieces m) j p.low)) p.best }
 
-  state_next : (b : Bool) → state_of (moved b d p) ≡ cond b leftState rightState
+  state_next : (b : Bool) → state_of (moved b d p) ≡ cond b left_state right_state
   unfolding moved
   state_next true = let l = lengths (pieces m) j h in same_state refl (omega arith) (kept_best d (omega arith) k.least)
   state_next false = let l = lengths (pieces m) j h in same_state (omega arith) (omega arith) (kept_best d (omega arith) k.least)
