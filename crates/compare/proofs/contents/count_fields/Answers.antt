@@ -1,3 +1,4 @@
+use borrow.Author.Rules.{rules}
 use mathlib.Core.Path.{ap}
 use Prim.Native.Nat.{ℕ, ◌≤◌, ◌<◌}
 use native.Mathlib.Omega.{arith}
@@ -28,8 +29,8 @@ loop-k-preserved c =
     let less = c.loop-k-test.true in
     let p = c.contents_of-first.result in
     let q = c.contents_of-second.result in
-    let x : SFits w64 (get_or p l.k (pos 0)) = record { sfits = c.count_field-arg-1.given } in
-    let y : SFits w64 (get_or q l.k (pos 0)) = record { sfits = c.count_field-arg-in-loop-k-1.given } in
+    let x : SFits w64 (get_or p l.k (pos 0)) = search rules in
+    let y : SFits w64 (get_or q l.k (pos 0)) = search rules in
     let m : l.k < length p = omega (arith, less, ap length c.contents_of-first.ensures) in
     let n : l.k < length q = omega (arith, less, ap length c.contents_of-second.ensures) in
     let t = rw (back x, back y) at c.count_field-count.ensures in
