@@ -89,7 +89,7 @@ def item_fault(crate, mark, name):
     return source_fault(crate, name) or proof_fault(crate, name)
 
 
-def proof_fault(crate, name):
+def proof_fault(crate, name, tactics=TACTICS):
     """What is missing of the proof of a function that is there."""
     files = (path for file in PROOF_FILES for path in (CRATES / crate / "proofs").rglob(file))
     folders = {path.parent for path in files if path.parent.name.lstrip("+") == name.split("::")[-1]}
@@ -97,7 +97,7 @@ def proof_fault(crate, name):
         return "%d proofs of that name" % len(folders)
     promises = any(function.ensures for function in functions_of(crate) if function.name == name)
     roots = (CRATES / crate / "src" / file for file in ("lib.rt", "main.rt"))
-    by_itself = promises and any(TACTICS.search(root.read_text(encoding="utf-8")) for root in roots if root.is_file())
+    by_itself = promises and any(tactics.search(root.read_text(encoding="utf-8")) for root in roots if root.is_file())
     return None if folders or by_itself else "no proof of that name, and nothing that is proved without one"
 
 
@@ -205,6 +205,11 @@ def self_test():
     assert found == expected and len(found) == 10, (found - expected, expected - found)
     renamed = SAMPLE.replace("is-1 :", "was-1 :")
     assert "is-1" in renamed and defined_names(renamed) == expected - {"is-1"} | {"was-1"}
+    # a proof that is found by itself, one with files, and none: a function that is missing, a type, one that promises nothing
+    assert item_fault("arith", "@", "lesser") is None and item_fault("arith", "@", "root_by_bits") is None
+    for crate, name in (("arith", "greater"), ("board", "Board"), ("cradlekeel", "write_out")):
+        assert item_fault(crate, "@", name), (crate, name)
+    assert proof_fault("arith", "lesser", re.compile("no such line")) and not proof_fault("arith", "root_by_bits", re.compile("no such line"))
     print("check_trace: the self-test found the %d names that are defined" % len(found))
 
 
