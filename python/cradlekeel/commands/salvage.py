@@ -33,7 +33,8 @@ name either; but from a pipe the command cannot tell which file the bytes came f
 cradlekeel save; then the command says what was kept. NEW holds at most 3200 records: where more would be kept the salvage is
 refused with 11. Where none would be kept NEW is not written, and a message says what the reason may be.
 
-The first run of bin/cradlekeel salvage proves and builds the library (make lib, many minutes where nothing is proved yet); later ones start at once.
+The first run of bin/cradlekeel salvage proves and builds the library (make lib, many minutes where
+nothing is proved yet); later ones start at once.
 
 Exit status: 0 NEW is written, whether records were dropped or not; 1 BROKEN could not be read, no record of it or more than 3200
 would be kept, NEW exists or could not be written, or standard output not be written; 2 wrong usage, or the library is missing;

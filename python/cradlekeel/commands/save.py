@@ -17,7 +17,8 @@ in several files. Where no line is accepted FILE is not written either. With --r
 mode, and one that may not be written, or is no regular file, is left alone. The command says nothing where all went well;
 cradlekeel show FILE | wc -l counts what was kept.
 
-The first run of bin/cradlekeel save proves and builds the program and the library (a few minutes); later ones start at once.
+The first run of bin/cradlekeel save proves and builds the program and the library (many minutes where nothing
+is proved yet); later ones start at once.
 
 Exit status: 0 every line is answered and FILE is written; 1 standard input could not be read, standard output or FILE not be
 written, FILE exists, no line was accepted, or more than 3200 were; 2 wrong usage, or the program or the library is missing;

@@ -28,7 +28,8 @@ is refused, the number of its refusal, and the others are still shown:
 A missing file or a folder has no number, nor has what is over 1,310,708 bytes: no trailer can tell of so many records, and it
 is not read to its end.
 
-The first run of bin/cradlekeel show proves and builds the library (make lib, many minutes where nothing is proved yet); later ones start at once.
+The first run of bin/cradlekeel show proves and builds the library (make lib, many minutes where
+nothing is proved yet); later ones start at once.
 
 Exit status: 0 every file is shown; 1 a file could not be read, or standard output not be written; 2 wrong usage, or the
 library is missing.
