@@ -1,7 +1,7 @@
 #!/usr/bin/env python3
 """Spells this repository's own names of specs/ and proofs/ in snake case: definitions, lemmas, fields and what they bind.
 
-usage: python3 tools/respell.py [--list] [FOLDER]     once, in a tree that /opt/rattle/port/port.py has just brought over
+usage: python3 tools/respell.py [--list] [FOLDER]     once, in a tree that the toolchain's port.py has just brought over
 
 A name that is declared or bound in specs/ or in a file of lemmas of proofs/ and is written in camel case or with dashes gets
 underscores: squaredDistance becomes squared_distance. A lemma that would have the name of another word gets the ending _lem. Names
