@@ -23,6 +23,13 @@ pub enum Reading {
     Xyz(f32, f32, f32),
 }
 
+// A point of the CIE 1960 diagram. One unit of u and v is document 01's "micro", 0.000001.
+#[derive(Clone, Copy, PartialEq, Eq, Debug)]
+pub struct Chromaticity {
+    pub u: u32,
+    pub v: u32,
+}
+
 // What a reading comes to: u and v in micro, or why there is none.
 #[derive(Clone, Copy)]
 pub enum Converted {
