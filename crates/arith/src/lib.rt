@@ -29,8 +29,8 @@ pub fn nearest_quotient(a: u64, b: u64) -> u64
 }
 
 // The root of n, one bit in each of `bits` rounds, the highest first. Before each round, with f the part of the root that is found
-// and b = 2^rounds, rest is n - f·f, root is f·b and square is b·b/4. With the next bit, b/2, f·f grows by f·b + b·b/4, which is
-// growth. In the end b is 1, and root is f.
+// and b = 2^k for the k rounds to go, rest is n - f·f, root is f·b and square is b·b/4. With the next bit, b/2, f·f grows by
+// f·b + b·b/4, which is growth. In the end b is 1, and root is f.
 fn root_by_bits(n: u64, bits: u32) -> u32
     requires { (1 ≤ bits) × (bits ≤ 32) × (n < 2 ^ (bits + bits)) }
     ensures { result ≡ root n }
@@ -38,8 +38,7 @@ fn root_by_bits(n: u64, bits: u32) -> u32
     let mut square = 1u64 << (bits + bits - 2);
     let mut rest = n;
     let mut root: u64 = 0;
-    let mut rounds = bits;
-    while 0 < rounds {
+    for _ in 0..bits {
         let growth = root + square;
         let half = root >> 1;
         if growth <= rest {
@@ -49,8 +48,7 @@ fn root_by_bits(n: u64, bits: u32) -> u32
         } else {
             root = half;
         }
-        square = square >> 2;
-        rounds -= 1;
+        square >>= 2;
     }
     root as u32
 }

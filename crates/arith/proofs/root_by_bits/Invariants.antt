@@ -1,8 +1,6 @@
+use Prim.Native.Nat.{◌-◌}
 use Rattle.arith.proofs.Bits.{Rooting}
 use Rattle.arith.proofs.root_by_bits.Given as goal
 
-abbrev pub invariant-loop-rounds : goal.invariant-loop-rounds
-invariant-loop-rounds l = Rooting l.n l.rounds l.rest l.root l.square
-
-abbrev pub decreases-loop-rounds : goal.decreases-loop-rounds
-decreases-loop-rounds l = l.rounds
+abbrev pub invariant-loop : goal.invariant-loop
+invariant-loop l = Rooting l.n (l.bits - l.counter) l.rest l.root l.square
