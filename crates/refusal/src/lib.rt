@@ -4,7 +4,7 @@
 ghost use Rattle.std.specs.Prelude.{◌≡◌};
 ghost use Rattle.refusal.specs.Number.{number_of};
 
-#[derive(Clone, Copy)]
+#[derive(Clone, Copy, PartialEq, Eq, Debug)]
 pub enum Refusal {
     // The list of class edges breaks its rule.
     BadEdges,
@@ -46,11 +46,11 @@ pub enum Refusal {
     LastStamp,
 }
 
-impl Refusal {
-    pub fn number(self) -> u8
-        ensures { result ≡ number_of self }
-    {
-        match self {
+impl From<Refusal> for u8 {
+    ghost from_gives = { λ r n. n ≡ number_of r };
+
+    fn from(refusal: Refusal) -> u8 {
+        match refusal {
             Refusal::BadEdges => 1,
             Refusal::NotFinite => 2,
             Refusal::OutOfRange => 3,
