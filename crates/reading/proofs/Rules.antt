@@ -1,20 +1,18 @@
 -- A rule for two coordinates, from what `coordinates` returned and what a `match` found it to be.
-use Rattle.std.proofs.Common.{◌≡◌, ℕ, Bool, true, false, ◌&&◌, sym, refl, ap, ◌∙◌, subst}
+use Rattle.std.proofs.Common.{◌≡◌, ℕ, Bool, true, false, ◌&&◌, sym, refl, ap, ◌∙◌, subst, Ok, Err}
 use lib.Ieee.{Float}
 use lib.Ieee.Scale.{finite}
 use Rattle.arith.specs.Units.{micro}
 use Rattle.reading.specs.Whole.{coordinate, in_range, to_whole}
-use Rattle.reading.specs.Convert.{judged, of_uv, of_coordinates}
+use Rattle.reading.specs.Convert.{Converted, point, judged, of_uv, of_coordinates}
 use Rattle.reading.specs.ConvertLaws.{UpTo, coordinates_up_to}
-use Rattle.reading.specs.declared.Converted.{Converted}
-use Rattle.reading.specs.declared.Converted.TheVariants.{Point, Refused}
 
 -- the rule on a point, and a refusal as it is
 abbrev pub on : (ℕ → ℕ → Converted) → Converted → Converted
-on rule (Point a b) = rule a b
-on rule (Refused r) = Refused r
+on rule (Ok p) = rule p.u p.v
+on rule (Err r) = Err r
 
-on_judged : (rule : ℕ → ℕ → Converted) (f g : Bool) (a b : ℕ) → on rule (judged f g (Point a b)) ≡ judged f g (rule a b)
+on_judged : (rule : ℕ → ℕ → Converted) (f g : Bool) (a b : ℕ) → on rule (judged f g (Ok (point a b))) ≡ judged f g (rule a b)
 on_judged rule false g a b = refl
 on_judged rule true false a b = refl
 on_judged rule true true a b = refl

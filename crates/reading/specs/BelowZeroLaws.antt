@@ -11,11 +11,10 @@ use Rattle.std.specs.Float.Ieee.Scale.{finite}
 use Rattle.arith.specs.RoundingLaws.{nearest_unique}
 use Rattle.reading.specs.FractionLaws.{fraction_test}
 use Rattle.reading.specs.Whole.{coordinate, tristimulus, in_range, to_whole}
-use Rattle.reading.specs.Convert.{of_uv, of_uv_prime, of_xy, of_coordinates, of_tristimulus, convert_reading}
+use Rattle.reading.specs.Convert.{Converted, of_uv, of_uv_prime, of_xy, of_coordinates, of_tristimulus, convert_reading}
 use Rattle.reading.specs.declared.Quantity.{Quantity}
 use Rattle.reading.specs.declared.Reading.{Reading}
 use Rattle.reading.specs.declared.Reading.TheVariants.{Uv, UvPrime, Xy, Xyz}
-use Rattle.reading.specs.declared.Converted.{Converted}
 
 regroup : (k S b : ℕ) → 2 * (k * S) * b ≡ 2 * (k * b * S)
 regroup k S b = mul_assoc 2 (k * S) b ∙ ap (λ (x : ℕ). 2 * x) (mul_right_comm k S b)

@@ -1,5 +1,5 @@
 -- How large u and v can come out, so that they fit 32 bits.
-use Rattle.std.specs.Prelude.{◌≡◌, ℕ, ◌*◌, ◌≤◌, Bool, true, false, ◌&&◌, refl, Float}
+use Rattle.std.specs.Prelude.{◌≡◌, ℕ, ◌*◌, ◌≤◌, Bool, true, false, ◌&&◌, refl, Float, Ok, Err}
 use Rattle.std.proofs.Common.{arith}
 use Rattle.std.specs.Float.Ieee.Scale.{finite}
 use Rattle.arith.specs.Units.{micro}
@@ -7,14 +7,12 @@ use Rattle.arith.specs.RoundingLaws.{nearest_at_most}
 use Rattle.arith.specs.TestLaws.{and_both}
 use Rattle.reading.specs.Whole.{coordinate, in_range, to_whole}
 use Rattle.reading.specs.WholeLaws.{whole_le}
-use Rattle.reading.specs.Convert.{micro_limit, judged, point_over, of_coordinates}
-use Rattle.reading.specs.declared.Converted.{Converted}
-use Rattle.reading.specs.declared.Converted.TheVariants.{Point, Refused}
+use Rattle.reading.specs.Convert.{Converted, micro_limit, judged, point_over, of_coordinates}
 
 -- u and v are at most the limit, where there are any
 abbrev pub UpTo : ℕ → Converted → Type 0
-UpTo limit (Point u v) = (u ≤ limit) × (v ≤ limit)
-UpTo limit (Refused r) = Unit
+UpTo limit (Ok p) = (p.u ≤ limit) × (p.v ≤ limit)
+UpTo limit (Err r) = Unit
 
 abbrev pub Within : Converted → Type 0
 Within c = UpTo micro_limit c

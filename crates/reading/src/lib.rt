@@ -30,11 +30,33 @@ pub struct Chromaticity {
     pub v: u32,
 }
 
+// u and v as whole numbers, in micro.
+#[derive(Clone, Copy, PartialEq, Eq, Debug)]
+pub struct Micro {
+    pub u: u32,
+    pub v: u32,
+}
+
 // What a reading comes to: u and v in micro, or why there is none.
-#[derive(Clone, Copy)]
-pub enum Converted {
-    Point(u32, u32),
-    Refused(Refusal),
+pub type Converted = Result<Chromaticity, Refusal>;
+
+// What a point of the diagram can be had from. No entry point asks for a certain kind: what a source comes to is all that an answer goes by.
+pub trait Source {
+    ghost use Rattle.reading.specs.Convert.{Converted};
+
+    ghost comes_to: { Self → Converted };
+
+    fn convert(self) -> Converted
+        ensures { result ≡ comes_to self };
+}
+
+// What is converted already.
+impl Source for Converted {
+    ghost comes_to = { λ c. c };
+
+    fn convert(self) -> Converted {
+        self
+    }
 }
 
 // What a float measures: how many of its units make 1, and the bound that it stays below.
@@ -115,14 +137,20 @@ fn point_over(x: u32, y: u32, n: u64) -> Converted
 {
     let u = arith::nearest_quotient(4 * x as u64 * MICRO as u64, n);
     let v = arith::nearest_quotient(6 * y as u64 * MICRO as u64, n);
-    Converted::Point(u as u32, v as u32)
+    Ok(Chromaticity {
+        u: u as u32,
+        v: v as u32,
+    })
 }
 
 // u and v from u' and v'.
 fn of_uv_prime(u: u32, v: u32) -> Converted
     ensures { result ≡ of_uv_prime u v }
 {
-    Converted::Point(u, arith::nearest_quotient(2 * v as u64, 3) as u32)
+    Ok(Chromaticity {
+        u,
+        v: arith::nearest_quotient(2 * v as u64, 3) as u32,
+    })
 }
 
 // u and v from x and y.
@@ -145,12 +173,15 @@ fn of_coordinates(x: f32, y: f32) -> Converted
     ensures { result ≡ of_coordinates of_uv x y }
 {
     if !(is_finite(x) & is_finite(y)) {
-        return Converted::Refused(Refusal::NotFinite);
+        return Err(Refusal::NotFinite);
     }
     if !(is_in_range(x, COORDINATE) & is_in_range(y, COORDINATE)) {
-        return Converted::Refused(Refusal::OutOfRange);
+        return Err(Refusal::OutOfRange);
     }
-    Converted::Point(to_whole(x, COORDINATE), to_whole(y, COORDINATE))
+    Ok(Chromaticity {
+        u: to_whole(x, COORDINATE),
+        v: to_whole(y, COORDINATE),
+    })
 }
 
 // u and v from three tristimulus values, or the reading's refusal.
@@ -158,43 +189,49 @@ fn of_tristimulus(x: f32, y: f32, z: f32) -> Converted
     ensures { result ≡ of_tristimulus x y z }
 {
     if !(is_finite(x) & is_finite(y) & is_finite(z)) {
-        return Converted::Refused(Refusal::NotFinite);
+        return Err(Refusal::NotFinite);
     }
     if !(is_in_range(x, TRISTIMULUS) & is_in_range(y, TRISTIMULUS) & is_in_range(z, TRISTIMULUS)) {
-        return Converted::Refused(Refusal::OutOfRange);
+        return Err(Refusal::OutOfRange);
     }
     let whole_y = to_whole(y, TRISTIMULUS);
     if whole_y < LEAST_Y {
-        return Converted::Refused(Refusal::TooDark);
+        return Err(Refusal::TooDark);
     }
     of_xyz(to_whole(x, TRISTIMULUS), whole_y, to_whole(z, TRISTIMULUS))
 }
 
-// What a reading comes to.
-pub fn convert(reading: Reading) -> Converted
-    ensures { result ≡ convert_reading reading }
-{
-    match reading {
-        Reading::Uv(u, v) => of_coordinates(u, v),
-        Reading::UvPrime(u, v) => match of_coordinates(u, v) {
-            Converted::Point(u, v) => of_uv_prime(u, v),
-            Converted::Refused(refusal) => Converted::Refused(refusal),
-        },
-        Reading::Xy(x, y) => match of_coordinates(x, y) {
-            Converted::Point(x, y) => of_xy(x, y),
-            Converted::Refused(refusal) => Converted::Refused(refusal),
-        },
-        Reading::Xyz(x, y, z) => of_tristimulus(x, y, z),
+impl Source for Reading {
+    ghost comes_to = { convert_reading };
+
+    fn convert(self) -> Converted {
+        match self {
+            Reading::Uv(u, v) => of_coordinates(u, v),
+            Reading::UvPrime(u, v) => {
+                let p = of_coordinates(u, v)?;
+                of_uv_prime(p.u, p.v)
+            }
+            Reading::Xy(x, y) => {
+                let p = of_coordinates(x, y)?;
+                of_xy(p.u, p.v)
+            }
+            Reading::Xyz(x, y, z) => of_tristimulus(x, y, z),
+        }
     }
 }
 
-// What u and v in micro come to: the point itself, unless one is over the limit.
-pub fn convert_micro(u: u32, v: u32) -> Converted
-    ensures { result ≡ convert_micro u v }
-{
-    if (u <= MICRO_LIMIT) & (v <= MICRO_LIMIT) {
-        Converted::Point(u, v)
-    } else {
-        Converted::Refused(Refusal::OutOfRange)
+// The point itself, unless u or v is over the limit.
+impl Source for Micro {
+    ghost comes_to = { λ m. convert_micro m.u m.v };
+
+    fn convert(self) -> Converted {
+        if (self.u <= MICRO_LIMIT) & (self.v <= MICRO_LIMIT) {
+            Ok(Chromaticity {
+                u: self.u,
+                v: self.v,
+            })
+        } else {
+            Err(Refusal::OutOfRange)
+        }
     }
 }
