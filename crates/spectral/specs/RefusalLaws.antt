@@ -1,12 +1,11 @@
 -- Refusals 9, 10 and 4 of spectral samples: each is given exactly under its condition, where none before it holds; and otherwise the
 -- samples come to a point.
-use Rattle.std.specs.Prelude.{◌≡◌, Bool, true, false, List, ℕ, ◌+◌, ◌*◌, eqb}
+use Rattle.std.specs.Prelude.{◌≡◌, Bool, true, false, List, ℕ, ◌+◌, ◌*◌, eqb, Err}
 use Rattle.std.proofs.Math.Path.{refl}
 use Rattle.std.proofs.Common.{sym, ◌∙◌, arith}
 use borrow.Author.Tests.{eq-eqb, ne_eqb, eqb-true, eqb-false}
 use Rattle.arith.specs.TestLaws.{cond_both}
 use Rattle.refusal.specs.declared.Refusal.{Refusal}
-use Rattle.reading.specs.declared.Converted.TheVariants.{Refused}
 use Rattle.reading.specs.Convert.{of_xyz}
 use Rattle.reading.specs.ConvertLaws.{Within, over_within}
 use Rattle.reading.specs.RefusalLaws.{never, of_given}
@@ -24,7 +23,7 @@ module _ (s x y z : List ℕ) where
   values = divided (sums s x y z)
 
   -- under its condition a refusal is given
-  pub samples_condition_refused : (r : Refusal) → SamplesCondition s x y z r → convert_samples s x y z ≡ Refused r
+  pub samples_condition_refused : (r : Refusal) → SamplesCondition s x y z r → convert_samples s x y z ≡ Err r
   unfolding convert_samples of_divided
   samples_condition_refused r (bad_lengths a) = rw a refl
   samples_condition_refused r (too_large a b) = rw (a, b) refl
@@ -41,7 +40,7 @@ module _ (s x y z : List ℕ) where
   clear_point h c = sound_converted h ∙ rw (ne_eqb values.y 0 c) refl
 
   -- a refusal that is given has its condition
-  pub samples_refused_condition : (r : Refusal) → convert_samples s x y z ≡ Refused r → SamplesCondition s x y z r
+  pub samples_refused_condition : (r : Refusal) → convert_samples s x y z ≡ Err r → SamplesCondition s x y z r
   samples_refused_condition r e = go (lengths_good s x y z) (limits_good s x y z) (eqb values.y 0) refl refl refl
     where
       given : {t : Refusal} → SamplesCondition s x y z t → SamplesCondition s x y z r

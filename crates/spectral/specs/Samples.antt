@@ -1,11 +1,9 @@
 -- What spectral samples come to (document 02, No. 1): u and v in micro, or a refusal. Definitions only. Of four lists, s has the samples, and
 -- x, y and z are the observer's tables, its colour-matching functions in millionths.
-use Rattle.std.specs.Prelude.{ℕ, zero, suc, ◌+◌, ◌*◌, ◌/◌, ◌^◌, max, Bool, ◌&&◌, cond, List, [], ◌∷◌, leb, ltb, eqb, length}
+use Rattle.std.specs.Prelude.{ℕ, zero, suc, ◌+◌, ◌*◌, ◌/◌, ◌^◌, max, Bool, ◌&&◌, cond, List, [], ◌∷◌, leb, ltb, eqb, length, Err}
 use Rattle.arith.specs.Every.{every}
 use Rattle.refusal.specs.declared.Refusal.TheVariants.{TooDark, BadLengths, SampleTooLarge}
-use Rattle.reading.specs.declared.Converted.{Converted}
-use Rattle.reading.specs.declared.Converted.TheVariants.{Refused}
-use Rattle.reading.specs.Convert.{of_xyz}
+use Rattle.reading.specs.Convert.{Converted, of_xyz}
 use Rattle.spectral.specs.declared.Tristimulus.{Tristimulus}
 
 -- There are 1 to 471 samples.
@@ -64,11 +62,11 @@ divided t =
 
 -- document 01's XYZ rule on the divided sums; refusal 4 only where their Y is zero
 unfoldable pub of_divided : Tristimulus → Converted
-of_divided t = cond (eqb t.y 0) (Refused TooDark) (of_xyz t.x t.y t.z)
+of_divided t = cond (eqb t.y 0) (Err TooDark) (of_xyz t.x t.y t.z)
 
 -- what the samples come to: refusals 9 and 10, in this order, stand before any sum
 unfoldable pub convert_samples : (s x y z : List ℕ) → Converted
 convert_samples s x y z =
     cond (lengths_good s x y z)
-    (cond (limits_good s x y z) (of_divided (divided (sums s x y z))) (Refused SampleTooLarge))
-    (Refused BadLengths)
+    (cond (limits_good s x y z) (of_divided (divided (sums s x y z))) (Err SampleTooLarge))
+    (Err BadLengths)

@@ -5,7 +5,7 @@ ghost use Rattle.std.specs.Prelude.{◌≡◌, ◌*◌, max};
 ghost use Rattle.spectral.specs.Samples.{lengths_good, all_at_most, limits_good, sums, shift_of, divided, of_divided, convert_samples};
 ghost use Rattle.spectral.specs.Conditions.{Sound};
 
-use reading::Converted;
+use reading::{Converted, Source};
 use refusal::Refusal;
 
 // X, Y and Z: the sums of products, or what is left of them after a division.
@@ -14,6 +14,15 @@ struct Tristimulus {
     x: u64,
     y: u64,
     z: u64,
+}
+
+// Spectral samples, and the observer's tables of X, Y and Z, a number of each for each sample.
+#[derive(Clone, Copy)]
+pub struct Samples<'a> {
+    pub samples: &'a [u32],
+    pub x_bar: &'a [u32],
+    pub y_bar: &'a [u32],
+    pub z_bar: &'a [u32],
 }
 
 // The most samples that are taken.
@@ -115,21 +124,26 @@ fn of_sums(sums: Tristimulus) -> Converted
 {
     let values = divide(sums);
     if values.y == 0 {
-        return Converted::Refused(Refusal::TooDark);
+        return Err(Refusal::TooDark);
     }
     reading::of_xyz(values.x as u32, values.y as u32, values.z as u32)
 }
 
-// What spectral samples come to with the observer's three tables.
-pub fn convert_samples(samples: &[u32], x_bar: &[u32], y_bar: &[u32], z_bar: &[u32]) -> Converted
-    ensures converts { result ≡ convert_samples samples.now x_bar.now y_bar.now z_bar.now }
-    ensures unchanged { (samples.exit.now ≡ samples.entry.now) × (x_bar.exit.now ≡ x_bar.entry.now) × (y_bar.exit.now ≡ y_bar.entry.now) × (z_bar.exit.now ≡ z_bar.entry.now) }
-{
-    if !lengths_good(samples, x_bar, y_bar, z_bar) {
-        return Converted::Refused(Refusal::BadLengths);
+// What the samples come to with the observer's three tables.
+impl<'a> Source for Samples<'a> {
+    ghost comes_to = { λ s. convert_samples s.samples.now s.x_bar.now s.y_bar.now s.z_bar.now };
+
+    #[tactic(auto, unfolding(crate::specs::Samples::convert_samples))]
+    fn convert(self) -> Converted
+        ensures converts { result ≡ convert_samples self.entry.samples.now self.entry.x_bar.now self.entry.y_bar.now self.entry.z_bar.now }
+        ensures unchanged { (self.exit.samples.now ≡ self.entry.samples.now) × (self.exit.x_bar.now ≡ self.entry.x_bar.now) × (self.exit.y_bar.now ≡ self.entry.y_bar.now) × (self.exit.z_bar.now ≡ self.entry.z_bar.now) }
+    {
+        if !lengths_good(self.samples, self.x_bar, self.y_bar, self.z_bar) {
+            return Err(Refusal::BadLengths);
+        }
+        if !limits_good(self.samples, self.x_bar, self.y_bar, self.z_bar) {
+            return Err(Refusal::SampleTooLarge);
+        }
+        of_sums(sums_of(self.samples, self.x_bar, self.y_bar, self.z_bar))
     }
-    if !limits_good(samples, x_bar, y_bar, z_bar) {
-        return Converted::Refused(Refusal::SampleTooLarge);
-    }
-    of_sums(sums_of(samples, x_bar, y_bar, z_bar))
 }
