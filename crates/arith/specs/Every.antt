@@ -1,10 +1,10 @@
 -- A test of each element of a list, with or without the element's number.
-use Rattle.std.specs.Prelude.{Bool, true, ◌&&◌, List, [], ◌∷◌, ℕ, suc}
+use Rattle.std.specs.Prelude.{Bool, List, [], ◌∷◌, ℕ, suc}
+use Rattle.std.specs.List.{list_all}
 
 -- the test passes at each element
 abbrev pub every : {A : Type 0} → (A → Bool) → List A → Bool
-every test [] = true
-every test (x ∷ l) = test x && every test l
+every test l = list_all test l
 
 -- the elements with their numbers, the first of which is n
 abbrev pub numbered_from : {A : Type 0} → ℕ → List A → List (ℕ × A)

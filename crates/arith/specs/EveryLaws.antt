@@ -1,7 +1,7 @@
 -- A test of each element of a list holds at any one of them, and goes on as a loop over the list does.
 use Rattle.std.specs.Prelude.{◌≡◌, Bool, true, ◌&&◌, List, [], ◌∷◌, ℕ, zero, suc, ◌+◌, ◌<◌, length, get_or, take}
-use Rattle.std.proofs.Common.{ap, sym, ◌∙◌, add-zero, add-suc, suc-add, zero-add, le_of_suc-le-suc, not-suc-le-zero, add-one}
-use Rattle.std.proofs.Math.Bool.{and-true, and_assoc}
+use Rattle.std.proofs.Common.{add-zero, add-suc, suc-add, zero-add, le_of_suc-le-suc, not-suc-le-zero}
+use Rattle.std.proofs.lemmas.List.Folds.{list_all_more}
 use Rattle.arith.specs.TestLaws.{and_both}
 use Rattle.arith.specs.Every.{every, numbered_from, every_entry}
 
@@ -24,12 +24,6 @@ entry_from {A} test n (x ∷ l) d t (suc i) h =
 pub every_entry_lem : {A : Type 0} (test : ℕ → A → Bool) (l : List A) (d : A) → every_entry test l ≡ true → (i : ℕ) → i < length l → test i (get_or l i d) ≡ true
 every_entry_lem test l d t i h = rw (zero-add i) at (entry_from test 0 l d t i h)
 
-next_suc : {A : Type 0} (test : A → Bool) (l : List A) (d : A) (k : ℕ) → k < length l → every test (take (suc k) l) ≡ every test (take k l) && test (get_or l k d)
-next_suc test [] d k h = absurd (not-suc-le-zero h)
-next_suc test (x ∷ l) d zero h = and-true (test x)
-next_suc test (x ∷ l) d (suc k) h =
-    ap (λ (b : Bool). test x && b) (next_suc test l d k (le_of_suc-le-suc h)) ∙ sym (and_assoc (test x) (every test (take k l)) (test (get_or l k d)))
-
 -- one element more, as a loop counts
 pub every_next : {A : Type 0} (test : A → Bool) (l : List A) (d : A) (k : ℕ) → k < length l → every test (take (k + 1) l) ≡ every test (take k l) && test (get_or l k d)
-every_next test l d k h = rw (add-one k) (next_suc test l d k h)
+every_next test l d k h = list_all_more test l k d h

@@ -2,15 +2,15 @@
 use Rattle.std.specs.Prelude.{Bool, ◌&&◌, cond, List, ℕ, zero, suc, ◌+◌, ◌-◌, ◌*◌, min, leb, ltb, length}
 use Rattle.classes.specs.Edges.{edge}
 
--- the temperature at a place is kelvinPlaces / place kelvin
+-- the temperature at a place is kelvin_places / place kelvin
 abbrev pub kelvin_places : ℕ
 kelvin_places = 103360000
 
--- e ≤ kelvinPlaces / place, as exact fractions: the temperature at the place is e kelvin or more
+-- e ≤ kelvin_places / place, as exact fractions: the temperature at the place is e kelvin or more
 abbrev pub at_least : ℕ → ℕ → Bool
 at_least e place = leb (e * place) kelvin_places
 
--- kelvinPlaces / place < e, as exact fractions: the temperature at the place is below e kelvin
+-- kelvin_places / place < e, as exact fractions: the temperature at the place is below e kelvin
 abbrev pub below : ℕ → ℕ → Bool
 below e place = ltb kelvin_places (e * place)
 
@@ -26,16 +26,16 @@ holds_all es low high best j = holds es j low && holds es j high && holds es j b
 abbrev pub no_class : ℕ
 no_class = 255
 
--- of the numbers below n the last at which the test f passes, otherwise noClass
+-- of the numbers below n the last at which the test f passes, otherwise no_class
 unfoldable pub last_passing : (ℕ → Bool) → ℕ → ℕ
 last_passing f zero = no_class
 last_passing f (suc n) = cond (f n) n (last_passing f n)
 
--- how many classes are looked at: one less than there are edges, and each with a number below noClass. (`ClassLaws.valid_count`: of valid
+-- how many classes are looked at: one less than there are edges, and each with a number below no_class. (`ClassLaws.valid_count`: of valid
 -- edges, all)
 abbrev pub class_count : List ℕ → ℕ
 class_count es = min no_class (length es - 1)
 
--- the class that holds all three places, otherwise noClass. (Where the edges rise, at most one class holds a place)
+-- the class that holds all three places, otherwise no_class. (Where the edges rise, at most one class holds a place)
 abbrev pub class_of : List ℕ → ℕ → ℕ → ℕ → ℕ
 class_of es low high best = last_passing (holds_all es low high best) (class_count es)

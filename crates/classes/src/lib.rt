@@ -1,9 +1,11 @@
 // The class edges that the caller lends, and the class of a bracket with its best point (document 01's "shelf classes").
 #![tactic(auto)]
 
-ghost use Rattle.std.specs.Prelude.{◌≡◌, ◌&&◌, ◌-◌, min, max};
-ghost use Rattle.classes.specs.Edges.{is_edge, edges_valid};
-ghost use Rattle.classes.specs.Classes.{no_class, at_least, below, class_of};
+ghost use Rattle.std.specs.Prelude.{◌≡◌, ◌&&◌, drop};
+ghost use Rattle.std.specs.List.{zip};
+ghost use Rattle.arith.specs.Every.{every};
+ghost use Rattle.classes.specs.Edges.{rises, is_edge, edges_valid};
+ghost use Rattle.classes.specs.Classes.{at_least, below, class_of};
 
 // The temperature at a place is this over the place, in kelvin.
 pub const KELVIN_PLACES: u64 = 103360000;
@@ -11,11 +13,18 @@ pub const KELVIN_PLACES: u64 = 103360000;
 // Given where no class is named.
 pub const NO_CLASS: u8 = 255;
 
-// Whether an edge is from 1600 to 20001.
-fn in_range(edge: u32) -> bool
-    ensures { result ≡ is_edge edge }
+// Whether each edge is below the next.
+fn rise(edges: &[u32]) -> bool
+    ensures { result ≡ every rises (zip edges.now (drop 1 edges.now)) }
 {
-    (1600 <= edge) & (edge <= 20001)
+    edges.iter().zip(edges.iter().skip(1)).all(|(a, b)| a < b)
+}
+
+// Whether each edge is from 1600 to 20001.
+fn in_range(edges: &[u32]) -> bool
+    ensures { result ≡ every is_edge edges.now }
+{
+    edges.iter().all(|edge| (1600..=20001).contains(edge))
 }
 
 // Whether the edges meet refusal 1's rule: 2 to 32, strictly rising, each from 1600 to 20001.
@@ -23,72 +32,31 @@ pub fn edges_valid(edges: &[u32]) -> bool
     ensures valid { result ≡ edges_valid edges.now }
     ensures unchanged { edges.exit.now ≡ edges.entry.now }
 {
-    let n = edges.len();
-    if n < 2 || 32 < n {
-        return false;
-    }
-    let last = n - 1;
-    let mut rising = true;
-    let mut fitting = true;
-    let mut k: usize = 0;
-    while k < last {
-        rising = rising & (edges[k] < edges[k + 1]);
-        fitting = fitting & in_range(edges[k]);
-        k += 1;
-    }
-    rising & (fitting & in_range(edges[last]))
-}
-
-fn lesser(x: u32, y: u32) -> u32
-    ensures { result ≡ min x y }
-{
-    if x < y { x } else { y }
-}
-
-fn greater(x: u32, y: u32) -> u32
-    ensures { result ≡ max x y }
-{
-    if x < y { y } else { x }
+    (2..=32).contains(&edges.len()) && rise(edges) && in_range(edges)
 }
 
 // Whether the temperatures at the places from hottest to coolest are from one edge up to but not including the next.
 fn is_within(from: u32, to: u32, hottest: u32, coolest: u32) -> bool
     ensures { result ≡ at_least from coolest && below to hottest }
 {
-    let lower = from as u64 * coolest as u64;
-    let upper = to as u64 * hottest as u64;
+    let lower = u64::from(from) * u64::from(coolest);
+    let upper = u64::from(to) * u64::from(hottest);
     (lower <= KELVIN_PLACES) & (KELVIN_PLACES < upper)
 }
 
-// How many classes so many edges make, counting those with a number below 255.
-fn class_count(edges: usize) -> usize
-    ensures { result ≡ min no_class (edges - 1) }
-{
-    if edges == 0 {
-        return 0;
-    }
-    if edges <= NO_CLASS as usize {
-        edges - 1
-    } else {
-        NO_CLASS as usize
-    }
-}
-
-// The class that holds the bracket's ends and its best point, otherwise 255.
+// The class that holds the bracket's ends and its best point, otherwise 255. The classes with a number below 255 are looked at.
 pub fn class_of(edges: &[u32], low: u32, high: u32, best: u32) -> u8
     ensures class { result ≡ class_of edges.now low high best }
     ensures unchanged { edges.exit.now ≡ edges.entry.now }
 {
-    let hottest = lesser(lesser(low, high), best);
-    let coolest = greater(greater(low, high), best);
-    let count = class_count(edges.len());
+    let hottest = low.min(high).min(best);
+    let coolest = low.max(high).max(best);
+    let count = edges.len().saturating_sub(1).min(usize::from(NO_CLASS));
     let mut named = NO_CLASS;
-    let mut k: usize = 0;
-    while k < count {
+    for k in 0..count {
         if is_within(edges[k], edges[k + 1], hottest, coolest) {
             named = k as u8;
         }
-        k += 1;
     }
     named
 }

@@ -1,29 +1,22 @@
--- `edges_valid` meets its contract: each flag is the definition's test of the edges passed.
-use Rattle.std.proofs.Common.{◌≡◌, sym, refl, ◌-◌, length, arith}
-use mathlib.Core.Bool.{and-false}
-use Rattle.std.proofs.lemmas.Bool.{lt-leb}
-use Rattle.classes.specs.Edges.{edges_valid}
-use Rattle.classes.specs.EdgeLaws.{rises_next, fits_next, valid_ends}
+-- `edges_valid` meets its contract: the pairs that `rise` tests are the neighbours.
+use Rattle.std.proofs.Common.{◌≡◌, ℕ, List, [], ◌∷◌, drop, refl, ap, arith}
+use Rattle.std.proofs.lemmas.Grind.{common_steps}
+use Rattle.std.specs.List.{zip}
+use Rattle.classes.specs.Edges.{neighbours, edges_valid}
 use Rattle.classes.proofs.edges_valid.Goals as goal
-use Rattle.classes.proofs.edges_valid.Goals.{then-n-lt2-via-then-n-lt2, then-n-lt2-via-else-n-lt2+then-n-gt32}
+use Rattle.classes.proofs.edges_valid.Goals.{then-contains, else-contains}
 
-pub returns-then-n-lt2-clause-valid : goal.returns-then-n-lt2-clause-valid
+zip_next : (es : List ℕ) → zip es (drop 1 es) ≡ neighbours es
+zip_next [] = refl
+zip_next (x ∷ []) = refl
+zip_next (x ∷ y ∷ l) = ap (◌∷◌ (x, y)) (zip_next (y ∷ l))
+
+pub returns-then-rise-clause-valid : goal.returns-then-rise-clause-valid
 unfolding edges_valid
-returns-then-n-lt2-clause-valid c =
-    let n = length c.args.edges.now in
-    elim c.then-n-lt2.branch [
-      | then-n-lt2-via-then-n-lt2 w ↦ sym (rw (lt-leb 2 n (omega arith)) refl)
-      | then-n-lt2-via-else-n-lt2+then-n-gt32 w ↦ sym (rw (lt-leb n 32 (omega arith), and-false) refl)
-    ]
+returns-then-rise-clause-valid c = rw (← zip_next c.args.edges.now) (grind (arith, common_steps))
 
-pub loop-k-preserved : goal.loop-k-preserved
-loop-k-preserved c =
-    let es = c.args.edges.now in
-    let k = c.loop-k.k in
-    (omega arith, rises_next es k (omega arith) c.loop-k.invariant.1, fits_next es k (omega arith) c.loop-k.invariant.2 c.in_range-fitting.ensures)
-
-pub returns-clause-valid : goal.returns-clause-valid
-returns-clause-valid c =
-    let es = c.args.edges.now in
-    let e : c.loop-k.k ≡ length es - 1 = omega arith in
-    valid_ends es c.loop-k.k e (omega arith) (omega arith) c.loop-k.invariant.1 c.loop-k.invariant.2 (rw e c.in_range.ensures)
+pub returns-else-rise-clause-valid : goal.returns-else-rise-clause-valid
+unfolding edges_valid
+returns-else-rise-clause-valid c =
+    rw (← zip_next c.args.edges.now)
+    (elim c.if-contains.branch [ then-contains w ↦ grind (arith, common_steps) | else-contains w ↦ grind (arith, common_steps) ])
