@@ -12,13 +12,13 @@ use Rattle.refusal.specs.declared.Refusal.{Refusal}
 use Rattle.refusal.specs.declared.Refusal.TheVariants.{TooManyRecords, NoTrailer, BadRecordLength, BadTrailer}
 use Rattle.records.specs.Bytes.{number}
 use Rattle.records.specs.Fields.{duv_width_of, front_record}
-use Rattle.records.specs.Files.{known_length, most_records, zero_record, record_at, trailer_form, form_of, form_records, records_of}
+use Rattle.records.specs.Files.{known_length, most_records, zero_record, record_at, trailer_form, form, form_of, form_records, records_of}
 use Rattle.records.specs.Conditions.{Known, of_18, of_20}
 use Rattle.records.specs.RefusalLaws.{form_readable}
 use Rattle.records.specs.RoundTripLaws.{readable_record}
 use Rattle.records.specs.declared.fields.Record.{Record}
 use Rattle.records.specs.declared.files.Form.{Form}
-use Rattle.records.specs.declared.files.Form.TheVariants.{Refused, Records}
+use Rattle.std.specs.Prelude.{Result, Ok, Err}
 
 module _ (long : ℕ) (l : List ℕ) (i : ℕ) where
   pub at_unknown : known_length long ≡ false → zero_record ≡ record_at long l i
@@ -56,24 +56,24 @@ within_word long count (of_18 e) h = rw e (omega arith)
 within_word long count (of_20 e) h = rw e (omega arith)
 
 module _ (long count back n : ℕ) where
-  pub wrong_length : known_length long ≡ false → Refused BadRecordLength ≡ trailer_form long count back n
+  pub wrong_length : known_length long ≡ false → Err BadRecordLength ≡ trailer_form long count back n
   wrong_length e = rw e refl
 
-  pub wrong_trailer : known_length long ≡ true → eqb back (long * count) && eqb n (back + 8) ≡ false → Refused BadTrailer ≡ trailer_form long count back n
+  pub wrong_trailer : known_length long ≡ true → eqb back (long * count) && eqb n (back + 8) ≡ false → Err BadTrailer ≡ trailer_form long count back n
   wrong_trailer e h = rw (e, h) refl
 
-  pub too_many : known_length long ≡ true → eqb back (long * count) && eqb n (back + 8) ≡ true → most_records long < count → Refused TooManyRecords ≡ trailer_form long count back n
+  pub too_many : known_length long ≡ true → eqb back (long * count) && eqb n (back + 8) ≡ true → most_records long < count → Err TooManyRecords ≡ trailer_form long count back n
   too_many e h m = rw (e, h, lt-leb count (most_records long) m) refl
 
-  pub good_trailer : known_length long ≡ true → eqb back (long * count) && eqb n (back + 8) ≡ true → count ≤ most_records long → Records long count ≡ trailer_form long count back n
+  pub good_trailer : known_length long ≡ true → eqb back (long * count) && eqb n (back + 8) ≡ true → count ≤ most_records long → Ok (form long count) ≡ trailer_form long count back n
   good_trailer e h m = rw (e, h, le-leb count (most_records long) m) refl
 
 module _ (l : List ℕ) where
-  pub form_short : length l < 8 → Refused NoTrailer ≡ form_of l
+  pub form_short : length l < 8 → Err NoTrailer ≡ form_of l
   unfolding form_of
   form_short h = rw (lt-ltb (length l) 8 h) refl
 
-  pub form_long : (long count back : ℕ) (f : Form) → 8 ≤ length l → long ≡ number (take 2 (drop (length l - 8) l)) →
+  pub form_long : (long count back : ℕ) (f : Result Form Refusal) → 8 ≤ length l → long ≡ number (take 2 (drop (length l - 8) l)) →
       count ≡ number (take 2 (drop (length l - 8 + 2) l)) → back ≡ number (take 4 (drop (length l - 8 + 4) l)) →
       f ≡ trailer_form long count back (length l) → f ≡ form_of l
   unfolding form_of
@@ -85,10 +85,10 @@ module _ (l : List ℕ) where
       e ∙ rw (le-ltb (length l) 8 h, d2, d1, e1, e2, e3) refl
 
   -- record i of a file that cannot be read, and of one of this form
-  pub refused_record : (i : ℕ) (r : Refusal) → form_of l ≡ Refused r → zero_record ≡ get_or (records_of l) i zero_record
+  pub refused_record : (i : ℕ) (r : Refusal) → form_of l ≡ Err r → zero_record ≡ get_or (records_of l) i zero_record
   unfolding records_of
-  refused_record i r e = ap (λ (f : Form). get_or (form_records f l) i zero_record) (sym e)
+  refused_record i r e = ap (λ (f : Result Form Refusal). get_or (form_records f l) i zero_record) (sym e)
 
-  pub formed_record : (i long n : ℕ) (r : Record) → form_of l ≡ Records long n → r ≡ record_at long l i → r ≡ get_or (records_of l) i zero_record
+  pub formed_record : (i long n : ℕ) (r : Record) → form_of l ≡ Ok (form long n) → r ≡ record_at long l i → r ≡ get_or (records_of l) i zero_record
   formed_record i long n r e f =
       let k = form_readable l long n e in f ∙ ap (λ (m : ℕ). record_at m l i) (sym k.1) ∙ readable_record l i k.0

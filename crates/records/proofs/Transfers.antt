@@ -11,7 +11,7 @@ use Rattle.refusal.specs.declared.Refusal.{Refusal}
 use Rattle.refusal.specs.declared.Refusal.TheVariants.{TooManyRecords, NoRoom}
 use Rattle.records.specs.BytesLaws.{Bytes}
 use Rattle.records.specs.Fields.{duv_width, duv_width_of, record_bytes}
-use Rattle.records.specs.Files.{trailer_bytes, records_bytes, file_of, file_length, records_in, duv_width_in, back_in, form_of, records_of}
+use Rattle.records.specs.Files.{trailer_bytes, records_bytes, file_of, file_length, records_in, duv_width_in, back_in, form, form_of, records_of}
 use Rattle.records.specs.FilesLaws.{AllNarrow}
 use Rattle.records.specs.Columns.{Columns, size_of, rows, list_of, over, filled}
 use Rattle.records.specs.ColumnsLaws.{length_rows, length_list}
@@ -22,9 +22,7 @@ use Rattle.records.specs.RefusalLaws.{condition_write, clear_write, write_done, 
 use Rattle.records.specs.RoundTrips.{SameList, ReadsBack}
 use Rattle.records.specs.RoundTripLaws.{form_records_lem, read_written, written_read}
 use Rattle.records.specs.declared.fields.Record.{Record}
-use Rattle.records.specs.declared.files.Form.TheVariants as form
-use Rattle.records.specs.declared.transfer.Outcome.{Outcome}
-use Rattle.records.specs.declared.transfer.Outcome.TheVariants.{Refused, Done}
+use Rattle.std.specs.Prelude.{Result, Ok, Err}
 
 -- the least of the eight lengths is that of the list
 pub size_is : (c : Columns) (n : ℕ) → n ≡ min (length c.u) (min (length c.v) (min (length c.place) (min (length c.low) (min (length c.high) (min (length c.duv) (min (length c.steps) (length c.class))))))) → n ≡ size_of c
@@ -33,13 +31,13 @@ size_is c n e = e
 
 -- the tests of the room, as the code makes them
 module _ (n room : ℕ) where
-  pub many_written : 3200 < n → Refused TooManyRecords ≡ write_outcome n room
+  pub many_written : 3200 < n → Err TooManyRecords ≡ write_outcome n room
   many_written h = sym (condition_write n room TooManyRecords (over_most h))
 
-  pub short_written : n ≤ 3200 → room < 20 * n + 8 → Refused NoRoom ≡ write_outcome n room
+  pub short_written : n ≤ 3200 → room < 20 * n + 8 → Err NoRoom ≡ write_outcome n room
   short_written h k = sym (condition_write n room NoRoom (short_target h k))
 
-  pub done_written : n ≤ 3200 → 20 * n + 8 ≤ room → Done (20 * n + 8) ≡ write_outcome n room
+  pub done_written : n ≤ 3200 → 20 * n + 8 ≤ room → Ok (20 * n + 8) ≡ write_outcome n room
   done_written h k = sym (clear_write n room h k)
 
 -- record i has room or has none, by the test of the code
@@ -65,15 +63,15 @@ module _ (c : Columns) (n : ℕ) (e : n ≡ size_of c) (old : List ℕ) where
       file_stored old (rows c n) (omega (arith, long)) f (ap (λ (m : ℕ). sets p (20 * m) (trailer_bytes duv_width m)) (sym long)) ∙ ap (λ (rs : List Record). over (file_of duv_width rs) old) rows_are
 
   -- what the outcome is, what the target holds, and that the list comes back
-  pub list_written : (k : ℕ) {mid new : List ℕ} {r : Outcome} → write_outcome n (length old) ≡ Done k → length mid ≡ length old → mid ≡ sets old 0 (records_bytes duv_width (rows c n)) → AllNarrow duv_width (rows c n) →
+  pub list_written : (k : ℕ) {mid new : List ℕ} {r : Result ℕ Refusal} → write_outcome n (length old) ≡ Ok k → length mid ≡ length old → mid ≡ sets old 0 (records_bytes duv_width (rows c n)) → AllNarrow duv_width (rows c n) →
       r ≡ write_outcome n (length mid) → new ≡ closed_into r n mid → (r ≡ write_outcome (size_of c) (length old)) × (new ≡ written r (list_of c) old) × ReadsBack r (list_of c)
   list_written k {mid} {new} {r} d same f ns g h =
       let done = write_done n (length old) k d in
       let as_told : r ≡ write_outcome n (length old) = g ∙ ap (write_outcome n) same in
-      let is_done : r ≡ Done k = as_told ∙ d in
+      let is_done : r ≡ Ok k = as_told ∙ d in
       let back : SameList duv_width (list_of c) = read_written 3 (list_of c) (of_20 refl) (subst (AllNarrow duv_width) rows_are ns) (omega (arith, length_list c, e, done.0)) in
-      let target : new ≡ written (Done k) (list_of c) old = h ∙ ap (λ (o : Outcome). closed_into o n mid) is_done ∙ file_written done.1 f in
-      (as_told ∙ room_of_list, target ∙ ap (λ (o : Outcome). written o (list_of c) old) (sym is_done), subst (λ (o : Outcome). ReadsBack o (list_of c)) (sym is_done) back)
+      let target : new ≡ written (Ok k) (list_of c) old = h ∙ ap (λ (o : Result ℕ Refusal). closed_into o n mid) is_done ∙ file_written done.1 f in
+      (as_told ∙ room_of_list, target ∙ ap (λ (o : Result ℕ Refusal). written o (list_of c) old) (sym is_done), subst (λ (o : Result ℕ Refusal). ReadsBack o (list_of c)) (sym is_done) back)
 
 -- what the test of the room says, of the list's own length
 pub too_short : {a b n : ℕ} → a ≡ b → a < n → b < n
@@ -82,12 +80,12 @@ too_short {n = n} e h = subst (λ (k : ℕ). k < n) e h
 pub long_enough : {a b n : ℕ} → a ≡ b → n ≤ a → n ≤ b
 long_enough {n = n} e h = subst (λ (k : ℕ). n ≤ k) e h
 
-module _ (l : List ℕ) (long n room : ℕ) (e : form_of l ≡ form.Records long n) where
-  pub short_read : room < n → Refused NoRoom ≡ read_outcome l room
+module _ (l : List ℕ) (long n room : ℕ) (e : form_of l ≡ Ok (form long n)) where
+  pub short_read : room < n → Err NoRoom ≡ read_outcome l room
   short_read h = let k = form_readable l long n e in sym (condition_read l room NoRoom (short_columns k.0 (omega (arith, k.2))))
 
-  pub done_read : n ≤ room → Done n ≡ read_outcome l room
-  done_read h = let k = form_readable l long n e in sym (clear_read l room k.0 (omega (arith, k.2)) ∙ ap Done k.2)
+  pub done_read : n ≤ room → Ok n ≡ read_outcome l room
+  done_read h = let k = form_readable l long n e in sym (clear_read l room k.0 (omega (arith, k.2)) ∙ ap Ok k.2)
 
   -- the length of the records is known, and they are all in the file
   pub known_read : Known long
@@ -105,5 +103,5 @@ module _ (l : List ℕ) (long n room : ℕ) (e : form_of l ≡ form.Records long
   pub again_read : Bytes l → file_of (duv_width_in l) (records_of l) ≡ l
   again_read b = written_read l b (form_readable l long n e).0
 
-pub bad_read : (l : List ℕ) (room : ℕ) (r : Refusal) → form_of l ≡ form.Refused r → Refused r ≡ read_outcome l room
+pub bad_read : (l : List ℕ) (room : ℕ) (r : Refusal) → form_of l ≡ Err r → Err r ≡ read_outcome l room
 bad_read l room r e = sym (condition_read l room r (bad_form r (form_condition l r e)))

@@ -1,11 +1,11 @@
 -- The file of a list of records, the form of a file, and the records in it (document 02, No. 4 and No. 8). d is the width of Duv. Definitions only.
-use Rattle.std.specs.Prelude.{ℕ, zero, suc, ◌+◌, ◌-◌, ◌*◌, ◌/◌, Bool, ◌&&◌, ◌||◌, cond, List, [], ◌∷◌, ◌++◌, leb, ltb, eqb, pos, length, drop, get_or}
+use Rattle.std.specs.Prelude.{ℕ, zero, suc, ◌+◌, ◌-◌, ◌*◌, ◌/◌, Bool, ◌&&◌, ◌||◌, cond, List, [], ◌∷◌, ◌++◌, leb, ltb, eqb, pos, length, drop, get_or, Result, Ok, Err}
+use Rattle.refusal.specs.declared.Refusal.{Refusal}
 use Rattle.refusal.specs.declared.Refusal.TheVariants.{TooManyRecords, NoTrailer, BadRecordLength, BadTrailer}
 use Rattle.records.specs.Bytes.{pack, unpack}
 use Rattle.records.specs.Fields.{duv_width, earlier_duv_width, record_length_of, duv_width_of, record_bytes, front_record}
 use Rattle.records.specs.declared.fields.Record.{Record}
 use Rattle.records.specs.declared.files.Form.{Form}
-use Rattle.records.specs.declared.files.Form.TheVariants.{Refused, Records}
 
 -- the lengths of records that are read: 18 bytes, of earlier files, and 20, which are written
 abbrev pub known_length : ℕ → Bool
@@ -82,25 +82,29 @@ count_in l = get_or (trailer_numbers l) 1 0
 abbrev pub back_in : List ℕ → ℕ
 back_in l = get_or (trailer_numbers l) 2 0
 
+-- the form of a file whose records are so long and so many
+abbrev pub form : (long count : ℕ) → Form
+form long count = record { record_length = long; count = count }
+
 -- refusals 15 and 11, in this order, of a file of n bytes with this record length, count and distance back; or the first two
-abbrev pub sized_form : (long count back n : ℕ) → Form
+abbrev pub sized_form : (long count back n : ℕ) → Result Form Refusal
 sized_form long count back n =
     cond (eqb back (long * count) && eqb n (back + trailer_length))
-    (cond (leb count (most_records long)) (Records long count) (Refused TooManyRecords))
-    (Refused BadTrailer)
+    (cond (leb count (most_records long)) (Ok (form long count)) (Err TooManyRecords))
+    (Err BadTrailer)
 
 -- before them stands refusal 14, by the record length
-abbrev pub trailer_form : (long count back n : ℕ) → Form
-trailer_form long count back n = cond (known_length long) (sized_form long count back n) (Refused BadRecordLength)
+abbrev pub trailer_form : (long count back n : ℕ) → Result Form Refusal
+trailer_form long count back n = cond (known_length long) (sized_form long count back n) (Err BadRecordLength)
 
 -- the form of a file: refusals 13, 14, 15 and 11, in this order, or how long its records are and how many it has
-unfoldable pub form_of : List ℕ → Form
-form_of l = cond (ltb (length l) trailer_length) (Refused NoTrailer) (trailer_form (record_length_in l) (count_in l) (back_in l) (length l))
+unfoldable pub form_of : List ℕ → Result Form Refusal
+form_of l = cond (ltb (length l) trailer_length) (Err NoTrailer) (trailer_form (record_length_in l) (count_in l) (back_in l) (length l))
 
 -- the records of a file of this form, none where it is refused
-abbrev pub form_records : Form → List ℕ → List Record
-form_records (Refused r) l = []
-form_records (Records long n) l = records_in (duv_width_of long) n l
+abbrev pub form_records : Result Form Refusal → List ℕ → List Record
+form_records (Err r) l = []
+form_records (Ok f) l = records_in (duv_width_of f.record_length) f.count l
 
 -- the records of a file
 unfoldable pub records_of : List ℕ → List Record

@@ -6,6 +6,7 @@ pub mod Files
 pub mod FilesLaws
 pub mod Columns
 pub mod ColumnsLaws
+pub mod Slices
 pub mod StoreLaws
 pub mod Transfer
 pub mod Conditions

@@ -1,11 +1,12 @@
 -- A list comes back from the file that is written of it, and a file from the list that is read from it: the proofs.
-use Rattle.std.specs.Prelude.{◌≡◌, refl, List, [], ◌∷◌, ℕ, zero, suc, ◌+◌, ◌-◌, ◌*◌, ◌≤◌, ◌<◌, ℤ, pos, negsuc, length, take, drop, get_or}
+use Rattle.std.specs.Prelude.{◌≡◌, refl, List, [], ◌∷◌, ℕ, zero, suc, ◌+◌, ◌-◌, ◌*◌, ◌≤◌, ◌<◌, ℤ, pos, negsuc, length, take, drop, get_or, Result, Ok}
 use Rattle.std.proofs.Common.{sym, ap, subst, ◌∙◌, append-nil, arith, length-append, length-drop, take-append-drop, take_all, take_at, drop_at, le-ltb}
+use Rattle.refusal.specs.declared.Refusal.{Refusal}
 use Rattle.records.specs.Bytes.{pack, unpack}
 use Rattle.records.specs.BytesLaws.{Fit, none, next, Bytes, Holds, bytes_drop, unpack_pack, pack_unpack}
 use Rattle.records.specs.Fields.{duv_width, earlier_duv_width, record_length_of, duv_width_of}
 use Rattle.records.specs.FieldsLaws.{Narrow, front_narrow}
-use Rattle.records.specs.Files.{most_records, most_written, most_read, trailer_widths, trailer_length, trailer_bytes, records_bytes, file_of, file_length, records_in, whole_records, zero_record, record_at, trailer_numbers, record_length_in, duv_width_in, count_in, back_in, sized_form, form_of, form_records, records_of}
+use Rattle.records.specs.Files.{most_records, most_written, most_read, trailer_widths, trailer_length, trailer_bytes, records_bytes, file_of, file_length, records_in, whole_records, zero_record, record_at, trailer_numbers, record_length_in, duv_width_in, count_in, back_in, sized_form, form, form_of, form_records, records_of}
 use Rattle.records.specs.FilesLaws.{AllNarrow, empty, first, length_file, length_records_in, records_back, bytes_back}
 use Rattle.records.specs.Columns.{Columns, size_of, rows, list_of, over, filled, first_rows}
 use Rattle.records.specs.ColumnsLaws.{length_list, filled_level, level_size, filled_rows, first_size, first_list}
@@ -16,8 +17,6 @@ use Rattle.records.specs.WholeLaws.{record_at_whole, whole_count}
 use Rattle.records.specs.RoundTrips.{SameList, ReadsBack, FileOfRecords, ColumnsBack, FileAgain, Rewritten}
 use Rattle.records.specs.declared.fields.Record.{Record}
 use Rattle.records.specs.declared.files.Form.{Form}
-use Rattle.records.specs.declared.files.Form.TheVariants.{Records}
-use Rattle.records.specs.declared.transfer.Outcome.TheVariants.{Done}
 
 -- the trailer's numbers of the file of a list, which are no wider than their bytes
 trailer_numbers_lem : (d : ℕ) (rs : List Record) → record_length_of d < 65536 → length rs < 65536 → record_length_of d * length rs < 4294967296 → trailer_numbers (file_of d rs) ≡ record_length_of d ∷ length rs ∷ record_length_of d * length rs ∷ []
@@ -55,9 +54,9 @@ file_readable d rs w h =
     )
 
 -- the records of a file, by its form
-pub form_records_lem : (l : List ℕ) (long n : ℕ) → form_of l ≡ Records long n → records_of l ≡ records_in (duv_width_of long) n l
+pub form_records_lem : (l : List ℕ) (long n : ℕ) → form_of l ≡ Ok (form long n) → records_of l ≡ records_in (duv_width_of long) n l
 unfolding records_of
-form_records_lem l long n e = ap (λ (f : Form). form_records f l) e
+form_records_lem l long n e = ap (λ (f : Result Form Refusal). form_records f l) e
 
 pub readable_records : (l : List ℕ) → Readable l → records_of l ≡ records_in (duv_width_in l) (count_in l) l
 readable_records l k = form_records_lem l (record_length_in l) (count_in l) (readable_form l k)
@@ -71,7 +70,7 @@ unfolding file_of
 read_written d rs w ns h =
     let l = file_of (suc d) rs in
     let k = file_readable (suc d) rs w h in
-    let form : form_of l ≡ Records (record_length_of (suc d)) (length rs) = readable_form l k.0 ∙ (λ i. Records (k.1 i) (k.2 i)) in
+    let form : form_of l ≡ Ok (form (record_length_of (suc d)) (length rs)) = readable_form l k.0 ∙ (λ i. Ok (form (k.1 i) (k.2 i))) in
     let width : duv_width_of (record_length_of (suc d)) ≡ suc d = omega arith in
     record {
       form = form;
@@ -85,7 +84,7 @@ pub earlier_form : (l : List ℕ) → trailer_length ≤ length l → record_len
 unfolding form_of
 earlier_form l h e = rw (le-ltb (length l) trailer_length h, e) refl
 
-pub earlier_records : (l : List ℕ) (n : ℕ) → form_of l ≡ Records 18 n → records_of l ≡ records_in 2 n l
+pub earlier_records : (l : List ℕ) (n : ℕ) → form_of l ≡ Ok (form 18 n) → records_of l ≡ records_in 2 n l
 earlier_records l n e = form_records_lem l 18 n e
 
 -- so a file that was written when Duv had 2 bytes is read to the list that it was written of
@@ -159,7 +158,7 @@ first_filled rs d n e h =
     (room, first_list n (filled rs d) room ∙ ap (rows (filled rs d)) (sym e) ∙ filled_rows rs d)
 
 -- a list that is written from columns comes back in others; the hypothesis is what the writer promises
-pub columns_back : (c d : Columns) (old : List ℕ) (k : ℕ) → ReadsBack (Done k) (list_of c) → write_outcome (size_of c) (length old) ≡ Done k → size_of c ≤ size_of d → ColumnsBack c d old k
+pub columns_back : (c d : Columns) (old : List ℕ) (k : ℕ) → ReadsBack (Ok k) (list_of c) → write_outcome (size_of c) (length old) ≡ Ok k → size_of c ≤ size_of d → ColumnsBack c d old k
 columns_back c d old k back e room =
     let rs = list_of c in
     let n = size_of c in
@@ -172,7 +171,7 @@ columns_back c d old k back e room =
     let sound = file_readable duv_width rs (of_20 refl) few in
     let count : count_in file ≡ n = sound.2 ∙ long in
     record {
-      outcome = ap (λ (l : List ℕ). read_outcome l (size_of d)) front ∙ clear_read file (size_of d) sound.0 (omega (arith, count)) ∙ ap Done count;
+      outcome = ap (λ (l : List ℕ). read_outcome l (size_of d)) front ∙ clear_read file (size_of d) sound.0 (omega (arith, count)) ∙ ap (λ (z : ℕ). Ok z) count;
       list =
           ap (λ (l : List ℕ). list_of (first_rows n (filled (records_of l) d))) front
           ∙ ap (λ (z : List Record). list_of (first_rows n (filled z d))) back.records ∙ (first_filled rs d n long room).1;
@@ -183,7 +182,7 @@ pub read_again : (l : List ℕ) → Bytes l → Readable l → count_in l ≤ mo
 read_again l b k few = read_written 3 (records_of l) (of_20 refl) (read_narrow l b k) (omega (arith, length_records l k))
 
 -- a file of either record length is written from the columns that it is read into as the file of its records
-pub rewritten : (l : List ℕ) (d : Columns) (n : ℕ) (old : List ℕ) → read_outcome l (size_of d) ≡ Done n → n ≤ most_written → file_length duv_width n ≤ length old → Rewritten l d n old
+pub rewritten : (l : List ℕ) (d : Columns) (n : ℕ) (old : List ℕ) → read_outcome l (size_of d) ≡ Ok n → n ≤ most_written → file_length duv_width n ≤ length old → Rewritten l d n old
 rewritten l d n old e few room =
     let done = read_done l (size_of d) n e in
     let rs = records_of l in
@@ -195,7 +194,7 @@ rewritten l d n old e few room =
     }
 
 -- one of records of 20 bytes is written again as it was; the hypothesis on its bytes is what the reader promises
-pub file_again : (l : List ℕ) (d : Columns) (n : ℕ) (old : List ℕ) → FileOfRecords (Done n) l → read_outcome l (size_of d) ≡ Done n → record_length_in l ≡ record_length_of duv_width → length l ≤ length old → FileAgain l d n old
+pub file_again : (l : List ℕ) (d : Columns) (n : ℕ) (old : List ℕ) → FileOfRecords (Ok n) l → read_outcome l (size_of d) ≡ Ok n → record_length_in l ≡ record_length_of duv_width → length l ≤ length old → FileAgain l d n old
 file_again l d n old same e w room =
     let done = read_done l (size_of d) n e in
     let sound = done.0 in
@@ -203,4 +202,4 @@ file_again l d n old same e w room =
     let end : file_length duv_width n ≡ length l = omega (arith, sound.agrees.exact, back) in
     let few : n ≤ most_written = subst (λ (m : ℕ). m ≤ most_written) done.1 (subst (λ (m : ℕ). count_in l ≤ most_records m) w sound.few) in
     let t = rewritten l d n old e few (omega (arith, end)) in
-    record { size = t.size; outcome = t.outcome ∙ ap Done end; target = t.target ∙ ap (λ (z : List ℕ). over z old) (byte_for_byte l w same) }
+    record { size = t.size; outcome = t.outcome ∙ ap (λ (z : ℕ). Ok z) end; target = t.target ∙ ap (λ (z : List ℕ). over z old) (byte_for_byte l w same) }

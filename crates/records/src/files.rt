@@ -21,11 +21,11 @@ pub(crate) const MOST_WRITTEN: usize = 3200;
 // The bytes of a trailer.
 pub(crate) const TRAILER_LENGTH: usize = 8;
 
-// What the form of a file says: why it cannot be read, or how long its records are and how many it has.
-#[derive(Clone, Copy)]
-pub enum Form {
-    Refused(Refusal),
-    Records(usize, usize),
+// What the form of a file says: how long its records are, and how many it has.
+#[derive(Clone, Copy, PartialEq, Eq, Debug)]
+pub struct Form {
+    pub record_length: usize,
+    pub count: usize,
 }
 
 // The trailer of n records, from a place of the buffer on.
@@ -57,32 +57,35 @@ fn most_records(record_length: usize) -> usize
 }
 
 // The form of a file of n bytes by the numbers of its trailer.
-fn trailer_form(record_length: u32, count: u32, back: u32, n: usize) -> Form
+fn trailer_form(record_length: u32, count: u32, back: u32, n: usize) -> Result<Form, Refusal>
     ensures { result ≡ trailer_form record_length count back n }
 {
     let long = record_length as usize;
     let records = count as usize;
     let distance = back as usize;
     if !is_known_length(long) {
-        return Form::Refused(Refusal::BadRecordLength);
+        return Err(Refusal::BadRecordLength);
     }
     if !((distance == long * records) & (n == distance + TRAILER_LENGTH)) {
-        return Form::Refused(Refusal::BadTrailer);
+        return Err(Refusal::BadTrailer);
     }
     if most_records(long) < records {
-        return Form::Refused(Refusal::TooManyRecords);
+        return Err(Refusal::TooManyRecords);
     }
-    Form::Records(long, records)
+    Ok(Form {
+        record_length: long,
+        count: records,
+    })
 }
 
-// What the form of a file says.
-pub fn check_form(file: &[u8]) -> Form
+// The form of a file, or why it cannot be read.
+pub fn check_form(file: &[u8]) -> Result<Form, Refusal>
     ensures form { result ≡ form_of file.now }
     ensures unchanged { file.exit.now ≡ file.entry.now }
 {
     let n = file.len();
     if n < TRAILER_LENGTH {
-        return Form::Refused(Refusal::NoTrailer);
+        return Err(Refusal::NoTrailer);
     }
     let trailer = n - TRAILER_LENGTH;
     let record_length = number_at(file, 2, trailer);
@@ -124,7 +127,7 @@ pub fn file_record(file: &[u8], i: usize) -> Record
     ensures unchanged { file.exit.now ≡ file.entry.now }
 {
     match check_form(file) {
-        Form::Refused(_) => ZERO_RECORD,
-        Form::Records(record_length, _) => record_at(file, record_length, i),
+        Err(_) => ZERO_RECORD,
+        Ok(form) => record_at(file, form.record_length, i),
     }
 }

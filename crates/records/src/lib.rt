@@ -7,7 +7,7 @@ mod fields;
 mod files;
 mod transfer;
 
-pub use columns::{list_length, list_record};
+pub use columns::{Columns, ColumnsMut};
 pub use fields::{Record, ZERO_RECORD};
 pub use files::{Form, check_form, file_record, is_known_length, record_at};
-pub use transfer::{Outcome, check_room, close_file, read_records, store_record, write_records};
+pub use transfer::{check_room, close_file, read_records, store_record, write_records};

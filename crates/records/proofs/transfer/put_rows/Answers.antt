@@ -5,15 +5,15 @@ use Rattle.records.proofs.Stores.{row_stored, row_narrow}
 use Rattle.records.proofs.transfer.put_rows.Goals as goal
 
 pub loop-i-init : goal.loop-i-init
-loop-i-init c = (omega arith, refl, refl, empty)
+loop-i-init c = (refl, refl, empty)
 
-pub row-r-requires : goal.row-r-requires
-row-r-requires c = has_row _ c.loop-i.i (omega (arith, c.loop-i-test.true, c.requires.0))
+pub row-requires : goal.row-requires
+row-requires c = has_row _ c.loop-i.i (omega (arith, c.loop-i-test.true, c.requires.0))
 
 pub loop-i-preserved : goal.loop-i-preserved
 loop-i-preserved c =
     let l = c.loop-i in
-    let r = c.row-r.result in
-    let e = c.row-r.ensures in
+    let r = c.row.result in
+    let e = c.row.ensures in
     let stored = c.put_record in
-    (omega (arith, c.loop-i-test.true), stored.auto.out ∙ l.invariant.1, row_stored _ l.i r e c.args.out.now l.invariant.2 stored.ensures.bytes, row_narrow _ l.i r e l.invariant.3 stored.ensures.narrow)
+    (stored.auto.out ∙ l.invariant.0, row_stored _ l.i r e c.args.out.now l.invariant.1 stored.ensures.bytes, row_narrow _ l.i r e l.invariant.2 stored.ensures.narrow)
