@@ -3,7 +3,7 @@
 use Rattle.std.specs.Prelude.{ℕ, ◌+◌, ◌-◌, ◌*◌, ◌/◌, min, max, ℤ, pos, nat_abs, ◌+ℤ◌, ◌-ℤ◌, ◌*ℤ◌}
 use Rattle.arith.specs.Rounding.{nearest_quotient}
 use Rattle.locus.specs.Stored.{entry_u, entry_v, piece_length, entry_place}
-use Rattle.locus.specs.declared.Chromaticity.{Chromaticity}
+use Rattle.reading.specs.declared.Chromaticity.{Chromaticity}
 
 -- the piece that holds a place: piece i runs from entry i to entry i + 1. An entry is in the piece that it starts, the last in piece 23
 abbrev pub piece_of : ℕ → ℕ

@@ -3,16 +3,17 @@
 
 mod tables;
 
-ghost use Rattle.std.specs.Prelude.{◌≡◌, ◌+◌, ◌*◌, ◌≤◌, ◌<◌, min, max, pos, nat_abs, ◌-ℤ◌};
+ghost use Rattle.std.specs.Prelude.{◌≡◌, ◌*◌, ◌≤◌, pos, nat_abs, ◌-ℤ◌};
 ghost use Rattle.arith.specs.Units.{micro};
-ghost use Rattle.locus.specs.Stored.{table_u, table_v, entry_in, stored_point, piece_length, first_place, last_place, first_entry, last_entry};
-ghost use Rattle.locus.specs.Locus.{first_of_four, locus_point, difference, squared_distance, distance_at};
+ghost use Rattle.locus.specs.Stored.{table_u, table_v, entry_in, entry_u, entry_v, piece_length, first_place, last_place};
+ghost use Rattle.locus.specs.Locus.{locus_point, difference, squared_distance, distance_at};
 ghost use Rattle.locus.specs.Admission.{dot, behind, admission};
 ghost use Rattle.locus.specs.Code.Bounds.{far_out};
-ghost use Rattle.locus.specs.Code.Pieces.{third_difference, third_difference_of, curve_through, curve_about, third_difference_at, curve_at, middle_entry, span_about, AboutAnEntry};
+ghost use Rattle.locus.specs.Code.Pieces.{third_difference, third_difference_of, curve_through, curve_about, third_difference_at, curve_at, span_about, AboutAnEntry};
 ghost use Rattle.locus.specs.Code.Fits.{Small, CurveFits};
 ghost use Rattle.locus.specs.Code.NearestSoFar.{near_at, nearer_of, nearest_of};
 
+use reading::Chromaticity;
 use refusal::Refusal;
 
 // The places from one entry to the next. One place is document 01's "notch".
@@ -38,32 +39,29 @@ const FAR_OUT: u32 = 4000000;
 // A reading is too far from the locus where its squared distance to the nearest entry exceeds this (refusal 5).
 const LIMIT: u64 = 2500000000;
 
-// A point of the CIE 1960 diagram. One unit of u and v is document 01's "micro", 0.000001.
+// An entry, from 1 to 24, and its squared distance from a reading.
+#[derive(Clone, Copy, PartialEq, Eq, Debug)]
+pub struct Nearest {
+    pub entry: u32,
+    pub distance: u64,
+}
+
+// The stored locus: u and v of the 24 entries. They are two tables, since every curve goes through one coordinate of its entries.
+// An entry point of the software makes it once and lends it to all below it.
+pub struct Locus {
+    pub us: [u32; 24],
+    pub vs: [u32; 24],
+    ghost u_stored: { us ≡ table_u },
+    ghost v_stored: { vs ≡ table_v },
+}
+
+// A point whose coordinates are small enough that sums and products of them fit 64 bits.
 #[derive(Clone, Copy)]
-pub struct Chromaticity {
-    pub u: u32,
-    pub v: u32,
-}
-
-// The nearest entry, from 1 to 24, with its squared distance, or the refusal 5, 6 or 7.
-#[derive(Clone, Copy)]
-pub enum Admission {
-    Near(u32, u64),
-    Refused(Refusal),
-}
-
-// u of the 24 entries. An entry point of the software makes the two tables once and lends them to all below it.
-pub fn table_u() -> [u32; 24]
-    ensures { result ≡ table_u }
-{
-    tables::TABLE_U
-}
-
-// v of the 24 entries.
-pub fn table_v() -> [u32; 24]
-    ensures { result ≡ table_v }
-{
-    tables::TABLE_V
+struct Point {
+    u: u32,
+    v: u32,
+    ghost u_small: { u ≤ far_out },
+    ghost v_small: { v ≤ far_out },
 }
 
 // The coordinate of entry i, from 1 to 24, in a table of one coordinate.
@@ -72,17 +70,6 @@ fn coordinate(table: &[u32; 24], i: usize) -> u32
     ensures { result ≡ entry_in table.now i }
 {
     table[i - 1]
-}
-
-// Entry i, from 1 to 24.
-fn stored_point(us: &[u32; 24], vs: &[u32; 24], i: usize) -> Chromaticity
-    requires { (us.now ≡ table_u) × (vs.now ≡ table_v) × (1 ≤ i) × (i ≤ 24) }
-    ensures { result ≡ stored_point i }
-{
-    Chromaticity {
-        u: coordinate(us, i),
-        v: coordinate(vs, i),
-    }
 }
 
 // x - y with its sign.
@@ -112,31 +99,12 @@ fn third_difference(w: u32, x: u32, y: u32, z: u32) -> i64
     signed_difference(z + 3 * x, 3 * y + w)
 }
 
-// The number from low to high that is nearest to x.
-fn clamped(low: u32, x: u32, high: u32) -> u32
-    requires { low ≤ high }
-    ensures { result ≡ min high (max low x) }
-{
-    if high < x {
-        return high;
-    }
-    if x < low { low } else { x }
-}
-
-// The first of the four entries that piece i goes through.
-fn first_of_four(i: u32) -> u32
-    requires { (1 ≤ i) × (i ≤ 23) }
-    ensures { result ≡ first_of_four i }
-{
-    clamped(1, i - 1, 21)
-}
-
 // The third difference of the four entries that piece i goes through.
 fn third_difference_of(table: &[u32; 24], i: u32) -> i64
     requires { Small table.now × (1 ≤ i) × (i ≤ 23) }
     ensures { result ≡ third_difference_of (entry_in table.now) i }
 {
-    let k = first_of_four(i) as usize;
+    let k = (i - 1).clamp(1, 21) as usize;
     let w = coordinate(table, k);
     let x = coordinate(table, k + 1);
     let y = coordinate(table, k + 2);
@@ -175,22 +143,24 @@ fn curve_about(table: &[u32; 24], m: u32) -> Curve
     curve_through(x, y, z, left, right)
 }
 
-// The third difference that a curve has t places past its middle entry.
-fn third_difference_at(curve: Curve, t: i64) -> i64
-    ensures { result ≡ third_difference_at curve t }
-{
-    if t < 0 { curve.left } else { curve.right }
-}
+impl Curve {
+    // The third difference that the curve has t places past its middle entry.
+    fn third_difference_at(self, t: i64) -> i64
+        ensures { result ≡ third_difference_at self t }
+    {
+        if t < 0 { self.left } else { self.right }
+    }
 
-// The coordinate that a curve gives t places past its middle entry.
-fn on_curve(curve: Curve, t: i64) -> u32
-    requires { CurveFits curve × (nat_abs t ≤ piece_length) }
-    ensures { result ≡ curve_at curve t }
-{
-    let d = third_difference_at(curve, t);
-    let s = t * t - PIECE_SQUARED;
-    let n = curve.a + t * (curve.b + t * curve.c + s * d);
-    (n as u64 / DENOMINATOR) as u32
+    // The coordinate that the curve gives t places past its middle entry.
+    fn at(self, t: i64) -> u32
+        requires { CurveFits self × (nat_abs t ≤ piece_length) }
+        ensures { result ≡ curve_at self t }
+    {
+        let d = self.third_difference_at(t);
+        let s = t * t - PIECE_SQUARED;
+        let n = self.a + t * (self.b + t * self.c + s * d);
+        (n as u64 / DENOMINATOR) as u32
+    }
 }
 
 // The square of the difference of two numbers.
@@ -202,31 +172,20 @@ pub fn squared_difference(x: u32, y: u32) -> u64
     (d * d) as u64
 }
 
-// The squared distance of the points (u, v) and (x, y).
-fn squared_distance(u: u32, v: u32, x: u32, y: u32) -> u64
-    requires { (u ≤ far_out) × (v ≤ far_out) × (x ≤ far_out) × (y ≤ far_out) }
-    ensures { result ≡ squared_distance u v x y }
-{
-    squared_difference(u, x) + squared_difference(v, y)
-}
+impl Point {
+    // The squared distance of two points.
+    fn squared_distance(self, other: Point) -> u64
+        ensures { result ≡ squared_distance self.u self.v other.u other.v }
+    {
+        squared_difference(self.u, other.u) + squared_difference(self.v, other.v)
+    }
 
-// An entry with its squared distance from a reading.
-#[derive(Clone, Copy)]
-struct Nearest {
-    entry: u32,
-    distance: u64,
-}
-
-// Entry i with its squared distance from the reading (u, v).
-fn near_at(us: &[u32; 24], vs: &[u32; 24], u: u32, v: u32, i: usize) -> Nearest
-    requires { (us.now ≡ table_u) × (vs.now ≡ table_v) × (u ≤ far_out) × (v ≤ far_out) × (1 ≤ i) × (i ≤ 24) }
-    ensures { result ≡ near_at u v i }
-{
-    let point = stored_point(us, vs, i);
-    let distance = squared_distance(u, v, point.u, point.v);
-    Nearest {
-        entry: i as u32,
-        distance: distance,
+    // The dot product of two points, taken as vectors from (0, 0).
+    fn dot(self, other: Point) -> u64
+        ensures value { result ≡ dot self.u self.v other.u other.v }
+        ensures fits { result ≤ 2 * (far_out * far_out) }
+    {
+        self.u as u64 * other.u as u64 + self.v as u64 * other.v as u64
     }
 }
 
@@ -241,74 +200,118 @@ fn nearer(first: Nearest, second: Nearest) -> Nearest
     }
 }
 
-// The nearest entry; of equals, the lowest. Both halves of the table are walked at once, so that neither waits for the other.
-fn nearest_entry(us: &[u32; 24], vs: &[u32; 24], u: u32, v: u32) -> Nearest
-    requires { (us.now ≡ table_u) × (vs.now ≡ table_v) × (u ≤ far_out) × (v ≤ far_out) }
-    ensures { result ≡ nearest_of u v 23 }
-{
-    let mut low = near_at(us, vs, u, v, 1);
-    let mut high = near_at(us, vs, u, v, 13);
-    let mut n: usize = 0;
-    while n < 11 {
-        low = nearer(low, near_at(us, vs, u, v, n + 2));
-        high = nearer(high, near_at(us, vs, u, v, n + 14));
-        n += 1;
+impl Locus {
+    // The locus that is stored.
+    pub fn stored() -> Locus
+        ensures { (result.us ≡ table_u) × (result.vs ≡ table_v) }
+    {
+        Locus {
+            us: tables::TABLE_U,
+            vs: tables::TABLE_V,
+        }
     }
-    nearer(low, high)
-}
 
-// The dot product of (a, b) and (x, y).
-fn dot_product(a: u32, b: u32, x: u32, y: u32) -> u64
-    requires { (a ≤ far_out) × (b ≤ far_out) × (x ≤ far_out) × (y ≤ far_out) }
-    ensures { result ≡ dot a b x y }
-{
-    a as u64 * x as u64 + b as u64 * y as u64
-}
+    // Entry i, from 1 to 24.
+    fn entry(&self, i: usize) -> Point
+        requires { (1 ≤ i) × (i ≤ 24) }
+        ensures { (result.u ≡ entry_u i) × (result.v ≡ entry_v i) }
+    {
+        Point {
+            u: coordinate(&self.us, i),
+            v: coordinate(&self.vs, i),
+        }
+    }
 
-// Whether the reading lies behind entry e as seen towards entry f.
-fn is_behind(us: &[u32; 24], vs: &[u32; 24], u: u32, v: u32, e: usize, f: usize) -> bool
-    requires { (us.now ≡ table_u) × (vs.now ≡ table_v) × (u ≤ far_out) × (v ≤ far_out) × (1 ≤ e) × (e ≤ 24) × (1 ≤ f) × (f ≤ 24) }
-    ensures { result ≡ behind u v e f }
-{
-    let a = stored_point(us, vs, e);
-    let b = stored_point(us, vs, f);
-    dot_product(u, v, b.u, b.v) + dot_product(a.u, a.v, a.u, a.v)
-        < dot_product(u, v, a.u, a.v) + dot_product(a.u, a.v, b.u, b.v)
-}
+    // Entry i with its squared distance from a reading.
+    fn near_at(&self, reading: Point, i: usize) -> Nearest
+        requires { (1 ≤ i) × (i ≤ 24) }
+        ensures { result ≡ near_at reading.u reading.v i }
+    {
+        Nearest {
+            entry: i as u32,
+            distance: reading.squared_distance(self.entry(i)),
+        }
+    }
 
-// The admission of a reading that is not far out.
-fn admit_near(us: &[u32; 24], vs: &[u32; 24], u: u32, v: u32) -> Admission
-    requires { (us.now ≡ table_u) × (vs.now ≡ table_v) × (u ≤ far_out) × (v ≤ far_out) }
-    ensures { result ≡ admission u v }
-{
-    let nearest = nearest_entry(us, vs, u, v);
-    let m = nearest.entry;
-    let d = nearest.distance;
-    if LIMIT < d {
-        return Admission::Refused(Refusal::TooFar);
+    // The nearest entry; of equals, the lowest. Both halves of the entries are walked at once, so that neither waits for the other.
+    fn nearest_entry(&self, reading: Point) -> Nearest
+        ensures { result ≡ nearest_of reading.u reading.v 23 }
+    {
+        let mut low = self.near_at(reading, 1);
+        let mut high = self.near_at(reading, 13);
+        for n in 0..11 {
+            low = nearer(low, self.near_at(reading, n + 2));
+            high = nearer(high, self.near_at(reading, n + 14));
+        }
+        nearer(low, high)
     }
-    if m == 1 && is_behind(us, vs, u, v, 1, 2) {
-        return Admission::Refused(Refusal::TooHot);
-    }
-    if m == 24 && is_behind(us, vs, u, v, 24, 23) {
-        return Admission::Refused(Refusal::TooCool);
-    }
-    Admission::Near(m, d)
-}
 
-// The nearest entry to a reading and its squared distance, or why the reading is refused.
-pub fn admit(us: &[u32; 24], vs: &[u32; 24], u: u32, v: u32) -> Admission
-    requires { (us.now ≡ table_u) × (vs.now ≡ table_v) }
-    ensures answers { result ≡ admission u v }
-    ensures unchanged { (us.exit.now ≡ us.entry.now) × (vs.exit.now ≡ vs.entry.now) }
-{
-    if FAR_OUT < u {
-        return Admission::Refused(Refusal::TooFar);
+    // Whether a reading lies behind entry e as seen towards entry f.
+    fn is_behind(&self, reading: Point, e: usize, f: usize) -> bool
+        requires { (1 ≤ e) × (e ≤ 24) × (1 ≤ f) × (f ≤ 24) }
+        ensures { result ≡ behind reading.u reading.v e f }
+    {
+        let a = self.entry(e);
+        let b = self.entry(f);
+        reading.dot(b) + a.dot(a) < reading.dot(a) + a.dot(b)
     }
-    if FAR_OUT < v {
-        return Admission::Refused(Refusal::TooFar);
+
+    // The admission of a reading that is not far out.
+    fn admit_near(&self, reading: Point) -> Result<Nearest, Refusal>
+        ensures { result ≡ admission reading.u reading.v }
+    {
+        let near = self.nearest_entry(reading);
+        if LIMIT < near.distance {
+            return Err(Refusal::TooFar);
+        }
+        if near.entry == 1 && self.is_behind(reading, 1, 2) {
+            return Err(Refusal::TooHot);
+        }
+        if near.entry == 24 && self.is_behind(reading, 24, 23) {
+            return Err(Refusal::TooCool);
+        }
+        Ok(near)
     }
-    admit_near(us, vs, u, v)
+
+    // The nearest entry to a reading and its squared distance, or why the reading is refused (refusals 5, 6 and 7).
+    pub fn admit(&self, p: Chromaticity) -> Result<Nearest, Refusal>
+        ensures answers { result ≡ admission p.u p.v }
+        ensures unchanged { self.exit.now ≡ self.entry.now }
+    {
+        if FAR_OUT < p.u {
+            return Err(Refusal::TooFar);
+        }
+        if FAR_OUT < p.v {
+            return Err(Refusal::TooFar);
+        }
+        self.admit_near(Point { u: p.u, v: p.v })
+    }
+
+    // The locus about entry m.
+    pub fn span_about(&self, m: u32) -> Span
+        requires { (1 ≤ m) × (m ≤ 24) }
+        ensures answers { result ≡ span_about m }
+        ensures unchanged { self.exit.now ≡ self.entry.now }
+    {
+        let middle = m.clamp(2, 23);
+        Span {
+            from: PIECE_LENGTH * ((m - 1).max(1) + 1),
+            mid: PIECE_LENGTH * (middle + 1),
+            to: PIECE_LENGTH * ((m + 1).min(24) + 1),
+            u: curve_about(&self.us, middle),
+            v: curve_about(&self.vs, middle),
+        }
+    }
+
+    // The point of the locus at a place: the span about the last entry that is not past the place holds it.
+    pub fn point_at(&self, place: u32) -> Chromaticity
+        requires { (first_place ≤ place) × (place ≤ last_place) }
+        ensures answers { result ≡ locus_point place }
+        ensures unchanged { self.exit.now ≡ self.entry.now }
+    {
+        let entry = place / PIECE_LENGTH - 1;
+        self.span_about(entry).point_at(place)
+    }
 }
 
 // The locus from the place `from` to the place `to`: a curve for each coordinate, in the places past the middle entry, which is at `mid`.
@@ -321,75 +324,25 @@ pub struct Span {
     v: Curve,
 }
 
-// The first entry of the bracket about entry m.
-fn first_entry(m: u32) -> u32
-    requires { (1 ≤ m) × (m ≤ 24) }
-    ensures { result ≡ first_entry m }
-{
-    if m < 2 { 1 } else { m - 1 }
-}
-
-// The last entry of the bracket about entry m.
-fn last_entry(m: u32) -> u32
-    requires { (1 ≤ m) × (m ≤ 24) }
-    ensures { result ≡ last_entry m }
-{
-    if m < 24 { m + 1 } else { 24 }
-}
-
-// The middle entry of the span about entry m: m itself, but 2 for the first entry and 23 for the last.
-fn middle_entry(m: u32) -> u32
-    requires { (1 ≤ m) × (m ≤ 24) }
-    ensures { result ≡ middle_entry m }
-{
-    clamped(2, m, 23)
-}
-
-// The locus about entry m.
-pub fn span_about(us: &[u32; 24], vs: &[u32; 24], m: u32) -> Span
-    requires { (us.now ≡ table_u) × (vs.now ≡ table_v) × (1 ≤ m) × (m ≤ 24) }
-    ensures answers { result ≡ span_about m }
-    ensures unchanged { (us.exit.now ≡ us.entry.now) × (vs.exit.now ≡ vs.entry.now) }
-{
-    let middle = middle_entry(m);
-    let u = curve_about(us, middle);
-    let v = curve_about(vs, middle);
-    Span {
-        from: PIECE_LENGTH * (first_entry(m) + 1),
-        mid: PIECE_LENGTH * (middle + 1),
-        to: PIECE_LENGTH * (last_entry(m) + 1),
-        u: u,
-        v: v,
+impl Span {
+    // The point of the locus at a place of the span.
+    pub fn point_at(self, place: u32) -> Chromaticity
+        requires { AboutAnEntry self × (self.from ≤ place) × (place ≤ self.to) }
+        ensures { result ≡ locus_point place }
+    {
+        let t = signed_difference(place, self.mid);
+        Chromaticity {
+            u: self.u.at(t),
+            v: self.v.at(t),
+        }
     }
-}
 
-// The point of the locus at a place of a span.
-pub fn point_on(span: Span, place: u32) -> Chromaticity
-    requires { AboutAnEntry span × (span.from ≤ place) × (place ≤ span.to) }
-    ensures { result ≡ locus_point place }
-{
-    let t = signed_difference(place, span.mid);
-    let u = on_curve(span.u, t);
-    let v = on_curve(span.v, t);
-    Chromaticity { u: u, v: v }
-}
-
-// The squared distance of the reading (u, v) from the locus at a place of a span.
-pub fn distance_on(span: Span, u: u32, v: u32, place: u32) -> u64
-    requires { AboutAnEntry span × (u ≤ far_out) × (v ≤ far_out) × (span.from ≤ place) × (place ≤ span.to) }
-    ensures { result ≡ distance_at u v place }
-{
-    let point = point_on(span, place);
-    squared_distance(u, v, point.u, point.v)
-}
-
-// The point of the locus at a place: the span about the last entry that is not past the place holds it.
-pub fn point_at(us: &[u32; 24], vs: &[u32; 24], place: u32) -> Chromaticity
-    requires { (us.now ≡ table_u) × (vs.now ≡ table_v) × (first_place ≤ place) × (place ≤ last_place) }
-    ensures answers { result ≡ locus_point place }
-    ensures unchanged { (us.exit.now ≡ us.entry.now) × (vs.exit.now ≡ vs.entry.now) }
-{
-    let entry = place / PIECE_LENGTH - 1;
-    let span = span_about(us, vs, entry);
-    point_on(span, place)
+    // The squared distance of a reading from the locus at a place of the span.
+    pub fn distance_at(self, p: Chromaticity, place: u32) -> u64
+        requires { AboutAnEntry self × (p.u ≤ far_out) × (p.v ≤ far_out) × (self.from ≤ place) × (place ≤ self.to) }
+        ensures { result ≡ distance_at p.u p.v place }
+    {
+        let point = self.point_at(place);
+        squared_difference(p.u, point.u) + squared_difference(p.v, point.v)
+    }
 }

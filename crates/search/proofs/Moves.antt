@@ -4,8 +4,9 @@ use mathlib.Core.Bool.{Bool, true, false, cond}
 use Prim.Native.Nat.{ℕ, ◌+◌, ◌-◌, ◌*◌, ◌≤◌}
 use native.Mathlib.Omega.{arith}
 use lib.Dec.{ltb}
+use Rattle.std.specs.Prelude.{Ok}
 use Rattle.locus.specs.Stored.{entry_place, first_entry}
-use Rattle.locus.specs.declared.Admission.TheVariants.{Near}
+use Rattle.locus.specs.declared.Nearest.{Nearest}
 use Rattle.locus.specs.Admission.{admission}
 use Rattle.locus.specs.AdmissionLaws.{admitted_near}
 use Rattle.locus.specs.Code.Pieces.{span_about}
@@ -84,11 +85,11 @@ moves true d p el er elow eplace edistance eleft eright ebest eleast = cc
 moves false d p el er elow eplace edistance eleft eright ebest eleast = cc
 
 -- an admitted reading and the span about its entry are what a search begins with
-pub begins : (u v m distance : ℕ) (span : Span) → admission u v ≡ Near m distance → span ≡ span_about m → Begins u v span m distance
-begins u v m distance span near e =
-    let a = admitted_near u v m distance near in
-    let ends = span_ends m span e in
-    record { admitted = a; about = record { entry = m; first = a.first; last = a.last; is = e }; from = ends.0; to = ends.1 }
+pub begins : (u v : ℕ) (near : Nearest) (span : Span) → admission u v ≡ Ok near → span ≡ span_about near.entry → Begins u v span near.entry near.distance
+begins u v near span h e =
+    let a = admitted_near u v near.entry near.distance h in
+    let ends = span_ends near.entry span e in
+    record { admitted = a; about = record { entry = near.entry; first = a.first; last = a.last; is = e }; from = ends.0; to = ends.1 }
 
 -- where the bracket lies
 pub lies : (d : ℕ → ℕ) {u v m distance j : ℕ} {span : Span} {p : Progress} → Begins u v span m distance → j ≤ most_steps → Tracks d m j p → Lies span p

@@ -2,14 +2,15 @@
 #![tactic(auto)]
 
 ghost use Rattle.std.specs.Prelude.{◌≡◌, cond, ◌≤◌, ltb};
-ghost use Rattle.locus.specs.declared.Admission.TheVariants.{Near};
 ghost use Rattle.locus.specs.Locus.{distance_at};
 ghost use Rattle.locus.specs.Admission.{admission};
 ghost use Rattle.locus.specs.Code.Bounds.{far_out};
 ghost use Rattle.locus.specs.Code.Pieces.{span_about};
-ghost use Rattle.search.specs.Golden.{steps_of};
 ghost use Rattle.search.specs.Code.Found.{found};
 ghost use Rattle.search.specs.Code.Progress.{Begins, Tracks, Lies, moved};
+
+use locus::{Nearest, PIECE_LENGTH, Span};
+use reading::Chromaticity;
 
 // F(16) and F(15) of Fibonacci's sequence (rule 3).
 const FIBONACCI_16: u32 = 987;
@@ -43,102 +44,80 @@ struct Progress {
     least: u64,
 }
 
-// The one or the other of two distances.
-fn choose(first: bool, x: u64, y: u64) -> u64
-    ensures { result ≡ cond first x y }
-{
-    if first { x } else { y }
-}
-
-// The one or the other of two places.
-fn choose_place(first: bool, x: u32, y: u32) -> u32
+// The one or the other of two values.
+fn choose<T: Copy>(first: bool, x: T, y: T) -> T
     ensures { result ≡ cond first x y }
 {
     if first { x } else { y }
 }
 
 // The search before its first step: the best point is the entry, then the inner points are looked at (rules 2, 3 and 6).
-fn begin(span: locus::Span, u: u32, v: u32, entry: u32, distance: u64) -> Progress
-    requires { Begins u v span entry distance }
-    ensures { Tracks (distance_at u v) entry 0 result }
+fn begin(span: Span, p: Chromaticity, near: Nearest) -> Progress
+    requires { Begins p.u p.v span near.entry near.distance }
+    ensures { Tracks (distance_at p.u p.v) near.entry 0 result }
 {
-    let pieces = (span.to - span.from) / locus::PIECE_LENGTH;
+    let pieces = (span.to - span.from) / PIECE_LENGTH;
     let long = FIBONACCI_16 * pieces;
     let short = FIBONACCI_15 * pieces;
     let inner_low = span.from + long;
     let inner_high = inner_low + short;
-    let left = locus::distance_on(span, u, v, inner_low);
-    let right = locus::distance_on(span, u, v, inner_high);
-    let low_nearer = left < distance;
-    let best = choose_place(low_nearer, inner_low, locus::PIECE_LENGTH * (entry + 1));
-    let least = choose(low_nearer, left, distance);
+    let left = span.distance_at(p, inner_low);
+    let right = span.distance_at(p, inner_high);
+    let low_nearer = left < near.distance;
+    let best = choose(low_nearer, inner_low, PIECE_LENGTH * (near.entry + 1));
+    let least = choose(low_nearer, left, near.distance);
     let high_nearer = right < least;
     Progress {
         low: span.from,
-        long: long,
-        short: short,
-        left: left,
-        right: right,
-        best: choose_place(high_nearer, inner_high, best),
+        long,
+        short,
+        left,
+        right,
+        best: choose(high_nearer, inner_high, best),
         least: choose(high_nearer, right, least),
     }
 }
 
 // One step (rules 4 and 6). The new point of either way is evaluated, and then one is chosen.
-fn step(span: locus::Span, u: u32, v: u32, s: Progress) -> Progress
-    requires { (u ≤ far_out) × (v ≤ far_out) × Lies span s }
-    ensures { result ≡ moved (ltb s.left s.right) (distance_at u v) s }
+fn step(span: Span, p: Chromaticity, s: Progress) -> Progress
+    requires { (p.u ≤ far_out) × (p.v ≤ far_out) × Lies span s }
+    ensures { result ≡ moved (ltb s.left s.right) (distance_at p.u p.v) s }
 {
     let inner_low = s.low + s.long;
     let new_low = s.low + s.short;
     let new_high = inner_low + s.long;
-    let at_new_low = locus::distance_on(span, u, v, new_low);
-    let at_new_high = locus::distance_on(span, u, v, new_high);
+    let at_new_low = span.distance_at(p, new_low);
+    let at_new_high = span.distance_at(p, new_high);
     let go_left = s.left < s.right;
-    let place = choose_place(go_left, new_low, new_high);
+    let place = choose(go_left, new_low, new_high);
     let distance = choose(go_left, at_new_low, at_new_high);
     let nearer = distance < s.least;
-    let short = s.long - s.short;
     Progress {
-        low: choose_place(go_left, s.low, inner_low),
+        low: choose(go_left, s.low, inner_low),
         long: s.short,
-        short: short,
+        short: s.long - s.short,
         left: choose(go_left, at_new_low, s.right),
         right: choose(go_left, s.left, at_new_high),
-        best: choose_place(nearer, place, s.best),
+        best: choose(nearer, place, s.best),
         least: choose(nearer, distance, s.least),
     }
 }
 
-// The number of steps to take where so many are allowed (rule 5).
-fn steps_for(max_steps: u32) -> u32
-    ensures { result ≡ steps_of max_steps }
+// The search for an admitted reading about its nearest entry (rules 2 to 6), in as many steps as are allowed and rule 5 takes.
+pub fn run(span: Span, p: Chromaticity, near: Nearest, max_steps: u32) -> Search
+    requires { (admission p.u p.v ≡ Ok near) × (span ≡ span_about near.entry) }
+    ensures { result ≡ found (distance_at p.u p.v) near.entry max_steps }
 {
-    if max_steps < MOST_STEPS {
-        max_steps
-    } else {
-        MOST_STEPS
+    let steps = max_steps.min(MOST_STEPS);
+    let mut s = begin(span, p, near);
+    for j in 0..steps {
+        s = step(span, p, s);
     }
-}
-
-// The search for an admitted reading about its nearest entry, given the reading's distance from that entry (rules 2 to 6).
-pub fn run(span: locus::Span, u: u32, v: u32, entry: u32, distance: u64, max_steps: u32) -> Search
-    requires { (admission u v ≡ Near entry distance) × (span ≡ span_about entry) }
-    ensures { result ≡ found (distance_at u v) entry max_steps }
-{
-    let steps = steps_for(max_steps);
-    let mut s = begin(span, u, v, entry, distance);
-    let mut j: u32 = 0;
-    while j < steps {
-        s = step(span, u, v, s);
-        j += 1;
-    }
-    let high = s.low + 2 * s.long + s.short;
     Search {
         low: s.low,
-        high: high,
+        high: s.low + 2 * s.long + s.short,
         best: s.best,
         distance: s.least,
-        steps: steps,
+        steps,
     }
 }

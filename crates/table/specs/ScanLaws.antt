@@ -1,12 +1,11 @@
 -- The scan of the ready table goes on as `least_of` does, and ends with the nearest ready place.
-use Rattle.std.specs.Prelude.{◌≡◌, refl, Bool, true, false, cond, ℕ, zero, suc, ◌+◌, ◌*◌, ◌-◌, ◌≤◌, ◌<◌, ltb}
+use Rattle.std.specs.Prelude.{◌≡◌, refl, Bool, true, false, cond, ℕ, zero, suc, ◌+◌, ◌*◌, ◌-◌, ◌≤◌, ◌<◌, ltb, Ok}
 use Rattle.std.proofs.Common.{ap, add-one, arith, lt-ltb, le-ltb}
 use Rattle.arith.specs.Least.{least_of}
 use Rattle.arith.specs.LeastLaws.{Least, least, least_only}
-use Rattle.locus.specs.declared.Admission.TheVariants.{Near}
 use Rattle.locus.specs.Stored.{entry_place}
 use Rattle.locus.specs.LocusLaws.{entry_distance_lem}
-use Rattle.locus.specs.Admission.{admission}
+use Rattle.locus.specs.Admission.{near, admission}
 use Rattle.locus.specs.AdmissionLaws.{admitted_near}
 use Rattle.table.specs.Ready.{last_ready, ready_place, ready_distance}
 use Rattle.table.specs.Code.Scan.{Within, bounded, nearest_of, nearer_of}
@@ -57,7 +56,7 @@ pub scan_last : (u v near : ℕ) → Within u v near → (nearest_of u v near 15
 scan_last u v near w = bounded_least (near + 1) (ready_distance u v) last_ready w.number w.among (omega (arith, w.close))
 
 -- the entry that a reading was admitted by is itself a ready point
-pub admitted_within : (u v m d : ℕ) → admission u v ≡ Near m d → Within u v d
+pub admitted_within : (u v m d : ℕ) → admission u v ≡ Ok (near m d) → Within u v d
 admitted_within u v m d e =
     let a = admitted_near u v m d e in
     let p : ready_place (68 * (m - 1)) ≡ entry_place m = omega (arith, a.first) in

@@ -9,6 +9,8 @@ ghost use Rattle.locus.specs.Admission.{limit};
 ghost use Rattle.table.specs.Ready.{last_ready, ready_table, nearest_ready};
 ghost use Rattle.table.specs.Code.Scan.{Within, nearer_of};
 
+use reading::Chromaticity;
+
 // The first place of the locus, which is that of ready point 0.
 const FIRST_PLACE: u32 = 2 * locus::PIECE_LENGTH;
 
@@ -18,11 +20,10 @@ const SPACING: u32 = 38;
 // How many ready points there are.
 const READY_POINTS: usize = 1565;
 
-// The ready table. A caller of `nearest_ready` makes it once and lends it.
-pub fn ready_table() -> [u32; 3130]
-    ensures { result ≡ ready_table }
-{
-    points::READY
+// The ready table. An entry point of the software makes it once and lends it to all below it.
+pub struct ReadyTable {
+    pub numbers: [u32; 3130],
+    ghost ready: { numbers ≡ ready_table },
 }
 
 // A ready point by one more than its number, with its squared distance from a reading; 0 stands for none.
@@ -32,39 +33,48 @@ struct Nearest {
     distance: u64,
 }
 
-// The nearer of the point kept so far and ready point k; of equals, that kept. Where u alone makes the point too far, v is not looked at.
-fn nearer(table: &[u32; 3130], u: u32, v: u32, kept: Nearest, k: usize) -> Nearest
-    requires { (table.now ≡ ready_table) × (u ≤ far_out) × (v ≤ far_out) × (k ≤ last_ready) }
-    ensures { result ≡ nearer_of u v kept k }
-{
-    let across = locus::squared_difference(u, table[2 * k]);
-    if across >= kept.distance {
-        return kept;
+impl ReadyTable {
+    // The table that is stored.
+    pub fn new() -> ReadyTable
+        ensures { result.numbers ≡ ready_table }
+    {
+        ReadyTable {
+            numbers: points::READY,
+        }
     }
-    let distance = across + locus::squared_difference(v, table[2 * k + 1]);
-    if distance >= kept.distance {
-        return kept;
-    }
-    Nearest {
-        next: k + 1,
-        distance: distance,
-    }
-}
 
-// The place of the ready point that is nearest to the reading (u, v), of equals the lowest, where some point is no farther than `near`.
-pub fn nearest_ready(table: &[u32; 3130], u: u32, v: u32, near: u64) -> u32
-    requires { (table.now ≡ ready_table) × (u ≤ far_out) × (v ≤ far_out) × (near ≤ limit) × Within u v near }
-    ensures answers { result ≡ nearest_ready u v }
-    ensures unchanged { table.exit.now ≡ table.entry.now }
-{
-    let mut kept = Nearest {
-        next: 0,
-        distance: near + 1,
-    };
-    let mut k: usize = 0;
-    while k < READY_POINTS {
-        kept = nearer(table, u, v, kept, k);
-        k += 1;
+    // The nearer of the point kept so far and ready point k; of equals, that kept. Where u alone makes the point too far, v is not looked at.
+    fn nearer(&self, p: Chromaticity, kept: Nearest, k: usize) -> Nearest
+        requires { (p.u ≤ far_out) × (p.v ≤ far_out) × (k ≤ last_ready) }
+        ensures { result ≡ nearer_of p.u p.v kept k }
+    {
+        let across = locus::squared_difference(p.u, self.numbers[2 * k]);
+        if across >= kept.distance {
+            return kept;
+        }
+        let distance = across + locus::squared_difference(p.v, self.numbers[2 * k + 1]);
+        if distance >= kept.distance {
+            return kept;
+        }
+        Nearest {
+            next: k + 1,
+            distance,
+        }
     }
-    FIRST_PLACE + SPACING * (kept.next - 1) as u32
+
+    // The place of the ready point that is nearest to a reading, of equals the lowest, where some point is no farther than `near`.
+    pub fn nearest(&self, p: Chromaticity, near: u64) -> u32
+        requires { (p.u ≤ far_out) × (p.v ≤ far_out) × (near ≤ limit) × Within p.u p.v near }
+        ensures answers { result ≡ nearest_ready p.u p.v }
+        ensures unchanged { self.exit.now ≡ self.entry.now }
+    {
+        let mut kept = Nearest {
+            next: 0,
+            distance: near + 1,
+        };
+        for k in 0..READY_POINTS {
+            kept = self.nearer(p, kept, k);
+        }
+        FIRST_PLACE + SPACING * (kept.next - 1) as u32
+    }
 }

@@ -2,11 +2,12 @@
 use Rattle.std.specs.Prelude.{cond, ℕ, ◌+◌, ltb}
 use Rattle.arith.specs.Least.{least_of}
 use Rattle.locus.specs.Locus.{entry_distance}
+use Rattle.locus.specs.Admission.{near}
 use Rattle.locus.specs.declared.Nearest.{Nearest}
 
 -- entry i with its distance
 abbrev pub near_at : ℕ → ℕ → ℕ → Nearest
-near_at u v i = record { entry = i; distance = entry_distance u v i }
+near_at u v i = near i (entry_distance u v i)
 
 -- the nearer of two entries; of equals, the first
 abbrev pub nearer_of : Nearest → Nearest → Nearest

@@ -10,7 +10,7 @@ returns c =
     let a = c.args in
     let h = c.requires in
     let n = h.admitted in
-    begun (distance_at a.u a.v) a.entry _ n.first n.last h.from (omega arith) (omega arith) refl refl
-    (n.distance ∙ sym (entry_distance_lem a.u a.v a.entry n.first n.last))
-    c.distance_on-left.ensures c.distance_on-right.ensures
-    c.choose_place-best.ensures c.choose-least.ensures c.choose_place.ensures c.choose.ensures
+    begun (distance_at a.p.u a.p.v) a.near.entry _ n.first n.last h.from (omega arith) (omega arith) refl refl
+    (n.distance ∙ sym (entry_distance_lem a.p.u a.p.v a.near.entry n.first n.last))
+    c.distance_at-left.ensures c.distance_at-right.ensures
+    c.choose-best.ensures c.choose-least.ensures c.choose.ensures c.choose-2.ensures

@@ -1,9 +1,0 @@
-use mathlib.Core.Path.{refl}
-use Rattle.locus.specs.Stored.{stored_u, stored_v, table_u, table_v, entry_in}
-use Rattle.locus.specs.Locus.{between, locus_at}
-use Rattle.table.specs.Ready.{ready_from}
-use Rattle.table.proofs.ready_table.Goals as goal
-
-pub returns : goal.returns
-unfolding ready_from locus_at between entry_in table_u table_v stored_u stored_v
-returns c = refl
