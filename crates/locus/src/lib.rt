@@ -48,6 +48,7 @@ pub struct Nearest {
 
 // The stored locus: u and v of the 24 entries. They are two tables, since every curve goes through one coordinate of its entries.
 // An entry point of the software makes it once and lends it to all below it.
+#[derive(Clone, Copy)]
 pub struct Locus {
     pub us: [u32; 24],
     pub vs: [u32; 24],

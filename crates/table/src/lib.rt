@@ -21,6 +21,7 @@ const SPACING: u32 = 38;
 const READY_POINTS: usize = 1565;
 
 // The ready table. An entry point of the software makes it once and lends it to all below it.
+#[derive(Clone, Copy)]
 pub struct ReadyTable {
     pub numbers: [u32; 3130],
     ghost ready: { numbers ≡ ready_table },
