@@ -1,4 +1,3 @@
 pub mod Stores
 pub mod Turns
-pub mod Files
 pub mod Whole

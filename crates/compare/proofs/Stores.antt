@@ -1,11 +1,6 @@
 -- Entries written one after another.
-use mathlib.Core.Path.{◌≡◌, refl, ap, sym, ◌∙◌}
-use mathlib.Core.List.{List, [], ◌∷◌, ◌++◌}
-use Prim.Native.Nat.{ℕ, suc, ◌+◌, ◌*◌, ◌≤◌}
-use native.Mathlib.Omega.{arith}
-use lib.IntN.{ℤ, pos}
-use lib.ListN.{length, set, length-append}
-use lib.Seq.{sets, length-sets}
+use Rattle.std.proofs.Common.{◌≡◌, refl, ap, sym, ◌∙◌, List, [], ◌∷◌, ◌++◌, ℕ, ◌*◌, ◌≤◌, ℤ, length, length-append, arith}
+use Rattle.std.proofs.lemmas.List.Edits.{sets, length-sets}
 use Rattle.records.specs.Columns.{over}
 use Rattle.records.specs.StoreLaws.{then, stored_over}
 use Rattle.compare.specs.Differences.{Entry, numbers}
@@ -20,15 +15,6 @@ put_length {old} {at = at} {es = es} p = ap length p.target ∙ length-sets old 
 -- no entry
 pub put_none : (old : List ℤ) (at : ℕ) → Put old old at at []
 put_none old at = record { target = refl; next = omega arith }
-
--- the four numbers of an entry, as the code stores them
-pub put_four : (old : List ℤ) (at : ℕ) (i k x y : ℤ) (e : Entry) → i ≡ pos e.index → k ≡ pos e.field → x ≡ e.first → y ≡ e.second →
-    Put old (set (set (set (set old at i) (at + 1) k) (at + 2) x) (at + 3) y) at (at + 4) (e ∷ [])
-put_four old at i k x y e p q r s =
-    let h1 : at + 1 ≡ suc at = omega arith in
-    let h2 : at + 2 ≡ suc (suc at) = omega arith in
-    let h3 : at + 3 ≡ suc (suc (suc at)) = omega arith in
-    record { target = rw (p, q, r, s, h1, h2, h3) refl; next = omega arith }
 
 numbers_append : (es fs : List Entry) → numbers (es ++ fs) ≡ numbers es ++ numbers fs
 numbers_append [] fs = refl

@@ -1,13 +1,9 @@
 -- One turn of a loop that takes two lists in step: what it adds to the entries so far, and that this is part of the whole.
-use mathlib.Core.Path.{◌≡◌, refl, ap, ◌∙◌}
-use mathlib.Core.List.{List, [], ◌∷◌, ◌++◌}
-use Prim.Native.Nat.{ℕ, zero, suc, ◌+◌, ◌-◌, ◌≤◌, ◌<◌}
-use native.Mathlib.Omega.{arith}
-use native.Mathlib.Nat.{zero-add}
-use native.Mathlib.Numerals.{add-one}
-use lib.IntN.{ℤ, pos}
-use lib.ListN.{length, take, get_or, length-append}
-use lib.Seq.{take-suc, length-take-le}
+use Rattle.std.proofs.Common.{◌≡◌, refl, ap, ◌∙◌, Bool, true, false, cond, not, List, [], ◌∷◌, ◌++◌, ℕ, zero, suc, ◌+◌, ◌-◌, ◌≤◌, ◌<◌, ◌×◌, ℤ, pos, length, take, get_or, length-append, add-one, arith}
+use Rattle.std.proofs.Math.Nat.{zero-add}
+use Rattle.std.proofs.Math.Seq.{take-suc, length-take-le}
+use Rattle.std.specs.List.{count_by, zip}
+use Rattle.arith.specs.Same.{same}
 use Rattle.records.specs.declared.fields.Record.{Record}
 use Rattle.compare.specs.Differences.{Entry, entry, contents, in_step, of_field, of_record, extra}
 use Rattle.compare.specs.InStepLaws.{in_step_last}
@@ -43,16 +39,19 @@ pub turn_put : {A : Type 0} (f : ℕ → A → A → List Entry) (xs ys : List A
     Put old mid at middle (in_step f 0 (take k xs) (take k ys)) → Put mid new middle end (f k (get_or xs k d) (get_or ys k d)) → Put old new at end (in_step f 0 (take (k + 1) xs) (take (k + 1) ys))
 turn_put f xs ys d k h g p q = rw (turn f xs ys d k h g) (put_then p q)
 
--- how many entries two records have does not turn on their number
-as_long : (i j k : ℕ) (xs ys : List ℤ) → length (in_step (of_field i) k xs ys) ≡ length (in_step (of_field j) k xs ys)
-as_long i j k [] ys = refl
-as_long i j k (x ∷ xs) [] = refl
-as_long i j k (x ∷ xs) (y ∷ ys) =
-    omega (arith, length-append (of_field i k x y) (in_step (of_field i) (suc k) xs ys), length-append (of_field j k x y) (in_step (of_field j) (suc k) xs ys), field_length i k x y, field_length j k x y, as_long i j (suc k) xs ys)
+-- as many entries as there are places at which the contents differ, whatever the record's number
+as_many : (i k : ℕ) (xs ys : List ℤ) → count_by (λ (p : ℤ × ℤ). not (same p.0 p.1)) (zip xs ys) ≡ length (in_step (of_field i) k xs ys)
+as_many i k [] ys = refl
+as_many i k (x ∷ xs) [] = refl
+as_many i k (x ∷ xs) (y ∷ ys) = go (same x y) (as_many i (suc k) xs ys)
+  where
+    go : (b : Bool) {n : ℕ} {es : List Entry} → n ≡ length es → cond (not b) (suc n) n ≡ length (cond b [] (entry i k x y ∷ []) ++ es)
+    go true e = e
+    go false e = ap suc e
 
-pub record_as_long : (i j : ℕ) (r s : Record) → length (of_record i r s) ≡ length (of_record j r s)
+pub record_count : (i : ℕ) (r s : Record) → count_by (λ (p : ℤ × ℤ). not (same p.0 p.1)) (zip (contents r) (contents s)) ≡ length (of_record i r s)
 unfolding of_record
-record_as_long i j r s = as_long i j 0 (contents r) (contents s)
+record_count i r s = as_many i 0 (contents r) (contents s)
 
 -- the entries of two records, by their contents
 pub of_contents : (i : ℕ) (r s : Record) {xs ys : List ℤ} → xs ≡ contents r → ys ≡ contents s → in_step (of_field i) 0 xs ys ≡ of_record i r s

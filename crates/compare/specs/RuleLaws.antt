@@ -1,5 +1,5 @@
 -- A comparison answers what its rule says, and every answer has its rule; what the target then holds, and the files the other way round.
-use Rattle.std.specs.Prelude.{◌≡◌, Bool, true, false, List, [], ◌∷◌, map, ℕ, ◌*◌, ◌≤◌, ◌<◌, leb, ℤ, take, drop}
+use Rattle.std.specs.Prelude.{◌≡◌, Bool, true, false, List, [], ◌∷◌, map, ℕ, ◌*◌, ◌≤◌, ◌<◌, leb, ℤ, take, drop, Result, Ok}
 use Rattle.std.proofs.Math.Path.{refl}
 use Rattle.std.proofs.Common.{sym, subst, ◌∙◌, arith, length-drop}
 use Rattle.std.proofs.Math.ListN.{length}
@@ -16,21 +16,20 @@ use Rattle.compare.specs.Differences.{field_count, numbers}
 use Rattle.compare.specs.DifferenceLaws.{same_none, swapped, most_differences, numbers_length, entry_numbers}
 use Rattle.compare.specs.Comparison.{file_differences, entry_length, compare_outcome, listed_into}
 use Rattle.compare.specs.Rules.{entry_at, other_way, Rule, bad_first, bad_second, no_room, listed_all}
-use Rattle.compare.specs.declared.Compared.{Compared}
-use Rattle.compare.specs.declared.Compared.TheVariants.{Listed}
+use Rattle.compare.specs.declared.NotCompared.{NotCompared}
 
 module _ (a b : List ℕ) (room : ℕ) where
-  pub rule_outcome : (o : Compared) → Rule a b room o → compare_outcome a b room ≡ o
+  pub rule_outcome : (o : Result ℕ NotCompared) → Rule a b room o → compare_outcome a b room ≡ o
   unfolding compare_outcome
   rule_outcome o (bad_first r h) = rw (condition_form a r h) refl
   rule_outcome o (bad_second r k h) = rw (readable_form a k, condition_form b r h) refl
   rule_outcome o (no_room k l h) = rw (readable_form a k, readable_form b l, lt-leb (entry_length * length (file_differences a b)) room h) refl
   rule_outcome o (listed_all k l h) = rw (readable_form a k, readable_form b l, le-leb (entry_length * length (file_differences a b)) room h) refl
 
-  pub outcome_rule : (o : Compared) → compare_outcome a b room ≡ o → Rule a b room o
+  pub outcome_rule : (o : Result ℕ NotCompared) → compare_outcome a b room ≡ o → Rule a b room o
   outcome_rule o e = go (form_decided a) (form_decided b) (leb (entry_length * length (file_differences a b)) room) refl
     where
-      given : {p : Compared} → Rule a b room p → Rule a b room o
+      given : {p : Result ℕ NotCompared} → Rule a b room p → Rule a b room o
       given {p} k = subst (Rule a b room) (sym (rule_outcome p k) ∙ e) k
 
       go : FormDecided a → FormDecided b → (t : Bool) → leb (entry_length * length (file_differences a b)) room ≡ t → Rule a b room o
@@ -47,7 +46,7 @@ most_listed a b k l =
 
 -- what the target then holds: the four numbers of entry j from 4·j on, and beyond all entries what it held
 module _ (a b : List ℕ) (old : List ℤ) (n : ℕ) where
-  pub target_entry : (j : ℕ) → j < length (file_differences a b) → take entry_length (drop (entry_length * j) (listed_into (Listed n) a b old)) ≡ numbers (entry_at (file_differences a b) j ∷ [])
+  pub target_entry : (j : ℕ) → j < length (file_differences a b) → take entry_length (drop (entry_length * j) (listed_into (Ok n) a b old)) ≡ numbers (entry_at (file_differences a b) j ∷ [])
   target_entry j h =
       let es = file_differences a b in
       let m = numbers_length es in
@@ -55,7 +54,7 @@ module _ (a b : List ℕ) (old : List ℤ) (n : ℕ) where
       rw (drop-append-le (entry_length * j) (numbers es) (drop (length (numbers es)) old) (omega arith))
       (take-append-le entry_length (drop (entry_length * j) (numbers es)) (drop (length (numbers es)) old) (omega arith) ∙ entry_numbers es j h)
 
-  pub target_beyond : drop (entry_length * length (file_differences a b)) (listed_into (Listed n) a b old) ≡ drop (entry_length * length (file_differences a b)) old
+  pub target_beyond : drop (entry_length * length (file_differences a b)) (listed_into (Ok n) a b old) ≡ drop (entry_length * length (file_differences a b)) old
   target_beyond = rw (← numbers_length (file_differences a b)) (drop-append_seam (numbers (file_differences a b)) (drop (length (numbers (file_differences a b))) old))
 
 -- the files the other way round

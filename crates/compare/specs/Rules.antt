@@ -1,14 +1,13 @@
 -- What the list of differences promises, and when each answer is given (document 02, No. 7): the statements.
-use Rattle.std.specs.Prelude.{◌≡◌, cond, List, ℕ, ◌*◌, ◌≤◌, ◌<◌, eqb, ℤ, pos, length, get_or}
+use Rattle.std.specs.Prelude.{◌≡◌, cond, List, ℕ, ◌*◌, ◌≤◌, ◌<◌, eqb, ℤ, pos, length, get_or, Result, Ok, Err}
 use Rattle.refusal.specs.declared.Refusal.{Refusal}
-use Rattle.refusal.specs.declared.Refusal.TheVariants.{NoRoom}
 use Rattle.records.specs.Files.{zero_record}
 use Rattle.records.specs.Conditions.{Readable, FormCondition}
 use Rattle.records.specs.declared.fields.Record.{Record}
 use Rattle.compare.specs.Differences.{Entry, entry, contents, field_count, only_first, only_second}
 use Rattle.compare.specs.Comparison.{file_differences, entry_length}
-use Rattle.compare.specs.declared.Compared.{Compared}
-use Rattle.compare.specs.declared.Compared.TheVariants.{FirstRefused, SecondRefused, Refused, Listed}
+use Rattle.compare.specs.declared.NotCompared.{NotCompared}
+use Rattle.compare.specs.declared.NotCompared.TheVariants.{First, Second, NoRoom}
 
 -- what field k of a record holds, and field k of record i of a list
 abbrev pub content_in : Record → ℕ → ℤ
@@ -48,11 +47,11 @@ abbrev pub Rising : List Entry → Type 0
 Rising es = (i j : ℕ) → i < j → j < length es → Before (entry_at es i) (entry_at es j)
 
 -- each answer under its condition, where none before it is met
-pub data Rule (a b : List ℕ) (room : ℕ) : Compared → Type 0 where
-  bad_first : (r : Refusal) → FormCondition a r → Rule a b room (FirstRefused r)
-  bad_second : (r : Refusal) → Readable a → FormCondition b r → Rule a b room (SecondRefused r)
-  no_room : Readable a → Readable b → room < entry_length * length (file_differences a b) → Rule a b room (Refused NoRoom)
-  listed_all : Readable a → Readable b → entry_length * length (file_differences a b) ≤ room → Rule a b room (Listed (length (file_differences a b)))
+pub data Rule (a b : List ℕ) (room : ℕ) : Result ℕ NotCompared → Type 0 where
+  bad_first : (r : Refusal) → FormCondition a r → Rule a b room (Err (First r))
+  bad_second : (r : Refusal) → Readable a → FormCondition b r → Rule a b room (Err (Second r))
+  no_room : Readable a → Readable b → room < entry_length * length (file_differences a b) → Rule a b room (Err NoRoom)
+  listed_all : Readable a → Readable b → entry_length * length (file_differences a b) ≤ room → Rule a b room (Ok (length (file_differences a b)))
 
 -- a field's number where the two files change places
 abbrev pub other_file : ℕ → ℕ

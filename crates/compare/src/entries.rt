@@ -1,5 +1,5 @@
 // Entries of the list of differences, written into a target.
-ghost use Rattle.std.specs.Prelude.{[], ◌∷◌, ◌+◌, ◌-◌, ◌*◌, ◌^◌, ◌≤◌, ◌<◌, length};
+ghost use Rattle.std.specs.Prelude.{◌≡◌, [], ◌∷◌, ◌+◌, ◌-◌, ◌*◌, ◌/◌, ◌^◌, ◌≤◌, ◌<◌, length};
 ghost use Rattle.compare.specs.Differences.{entry, of_field, of_record, extra};
 ghost use Rattle.compare.specs.Comparison.{entry_length};
 ghost use Rattle.compare.specs.Code.Puts.{Put};
@@ -7,79 +7,79 @@ ghost use Rattle.compare.specs.Code.Puts.{Put};
 use crate::contents::{FIELDS, contents_of};
 use records::Record;
 
-// Writes an entry; answers where the next one goes.
-fn put_entry(
-    index: usize,
-    field: usize,
-    first: i64,
-    second: i64,
-    target: &mut [i64],
-    at: usize,
-) -> usize
-    requires { (index < 2 ^ 63) × (field < 2 ^ 63) × (at + entry_length ≤ length target.old) }
-    ensures { Put target.old target.new at result (entry index field first second ∷ []) }
-{
-    let i = index as i64;
-    let k = field as i64;
-    target[at] = i;
-    target[at + 1] = k;
-    target[at + 2] = first;
-    target[at + 3] = second;
-    at + 4
+// The numbers of an entry.
+pub(crate) const ENTRY_LENGTH: usize = 4;
+
+// A target, written from its start up to where the next entry goes.
+#[derive(Drop)]
+pub(crate) struct Entries<'a> {
+    target: &'a mut [i64],
+    end: usize,
 }
 
-// Writes the entry of a field where its contents differ; answers where the next entry goes.
-fn put_field(
-    index: usize,
-    field: usize,
-    first: i64,
-    second: i64,
-    target: &mut [i64],
-    at: usize,
-) -> usize
-    requires { (index < 2 ^ 63) × (field < 2 ^ 63) × (at + entry_length * length (of_field index field first second) ≤ length target.old) }
-    ensures { Put target.old target.new at result (of_field index field first second) }
-{
-    if first == second {
-        return at;
+impl<'a> Entries<'a> {
+    // No entry, in this target.
+    pub(crate) fn new(target: &'a mut [i64]) -> Entries<'a>
+        ensures end { result.end ≡ 0 }
+        ensures target { result.target.now ≡ target.old }
+        ensures same { result.target.ghost_name ≡ target.entry.ghost_name }
+    {
+        Entries { target, end: 0 }
     }
-    put_entry(index, field, first, second, target, at)
-}
 
-// Writes the entries of the fields in which two records differ; answers where the next entry goes.
-pub(crate) fn put_fields(index: usize, r: Record, s: Record, target: &mut [i64], at: usize) -> usize
-    requires { (index < 2 ^ 63) × (at + entry_length * length (of_record index r s) ≤ length target.old) }
-    ensures { Put target.old target.new at result (of_record index r s) }
-{
-    let first = contents_of(r);
-    let second = contents_of(s);
-    let mut end = at;
-    let mut k: usize = 0;
-    while k < FIELDS {
-        let x = first[k];
-        let y = second[k];
-        end = put_field(index, k, x, y, target, end);
-        k += 1;
+    // How many entries there are.
+    pub(crate) fn count(&self) -> usize
+        ensures { result ≡ self.now.end / entry_length }
+    {
+        self.end / ENTRY_LENGTH
     }
-    end
-}
 
-// Writes the entries of the records from one number up to another, which only one file has; answers where the next entry goes.
-pub(crate) fn put_extra(
-    field: usize,
-    from: usize,
-    to: usize,
-    target: &mut [i64],
-    at: usize,
-) -> usize
-    requires { (field < 2 ^ 63) × (to ≤ 2 ^ 63) × (at + entry_length * (to - from) ≤ length target.old) }
-    ensures { Put target.old target.new at result (extra field from (to - from)) }
-{
-    let mut end = at;
-    let mut i = from;
-    while i < to {
-        end = put_entry(i, field, 0, 0, target, end);
-        i += 1;
+    // Writes an entry.
+    fn put(&mut self, index: usize, field: usize, first: i64, second: i64)
+        requires { (index < 2 ^ 63) × (field < 2 ^ 63) × (self.old.end + entry_length ≤ length self.old.target.now) }
+        ensures put { Put self.old.target.now self.new.target.now self.old.end self.new.end (entry index field first second ∷ []) }
+        ensures same { self.new.target.ghost_name ≡ self.old.target.ghost_name }
+    {
+        let at = self.end;
+        self.target[at] = index as i64;
+        self.target[at + 1] = field as i64;
+        self.target[at + 2] = first;
+        self.target[at + 3] = second;
+        self.end = at + 4;
     }
-    end
+
+    // Writes the entry of a field where its contents differ.
+    fn put_field(&mut self, index: usize, field: usize, first: i64, second: i64)
+        requires { (index < 2 ^ 63) × (field < 2 ^ 63) × (self.old.end + entry_length * length (of_field index field first second) ≤ length self.old.target.now) }
+        ensures put { Put self.old.target.now self.new.target.now self.old.end self.new.end (of_field index field first second) }
+        ensures same { self.new.target.ghost_name ≡ self.old.target.ghost_name }
+    {
+        if first != second {
+            self.put(index, field, first, second);
+        }
+    }
+
+    // Writes the entries of the fields in which two records differ.
+    pub(crate) fn put_fields(&mut self, index: usize, r: Record, s: Record)
+        requires { (index < 2 ^ 63) × (self.old.end + entry_length * length (of_record index r s) ≤ length self.old.target.now) }
+        ensures put { Put self.old.target.now self.new.target.now self.old.end self.new.end (of_record index r s) }
+        ensures same { self.new.target.ghost_name ≡ self.old.target.ghost_name }
+    {
+        let first = contents_of(r);
+        let second = contents_of(s);
+        for k in 0..FIELDS {
+            self.put_field(index, k, first[k], second[k]);
+        }
+    }
+
+    // Writes the entries of the records from one number up to another, which only one file has.
+    pub(crate) fn put_extra(&mut self, field: usize, from: usize, to: usize)
+        requires { (field < 2 ^ 63) × (to ≤ 2 ^ 63) × (self.old.end + entry_length * (to - from) ≤ length self.old.target.now) }
+        ensures put { Put self.old.target.now self.new.target.now self.old.end self.new.end (extra field from (to - from)) }
+        ensures same { self.new.target.ghost_name ≡ self.old.target.ghost_name }
+    {
+        for i in from..to {
+            self.put(i, field, 0, 0);
+        }
+    }
 }
