@@ -1,6 +1,7 @@
 -- Entries written one after another.
 use Rattle.std.proofs.Common.{◌≡◌, refl, ap, sym, ◌∙◌, List, [], ◌∷◌, ◌++◌, ℕ, ◌*◌, ◌≤◌, ℤ, length, length-append, arith}
-use Rattle.std.proofs.lemmas.List.Edits.{sets, length-sets}
+use Rattle.std.proofs.lemmas.List.Edits.{sets}
+use Rattle.std.proofs.Math.Seq.{length-sets}
 use Rattle.records.specs.Columns.{over}
 use Rattle.records.specs.StoreLaws.{then, stored_over}
 use Rattle.compare.specs.Differences.{Entry, numbers}

@@ -1,8 +1,9 @@
 -- One turn of a loop that takes two lists in step: what it adds to the entries so far, and that this is part of the whole.
-use Rattle.std.proofs.Common.{◌≡◌, refl, ap, ◌∙◌, Bool, true, false, cond, not, List, [], ◌∷◌, ◌++◌, ℕ, zero, suc, ◌+◌, ◌-◌, ◌≤◌, ◌<◌, ◌×◌, ℤ, pos, length, take, get_or, length-append, add-one, arith}
+use Rattle.std.proofs.Common.{◌≡◌, refl, ap, sym, ◌∙◌, Bool, true, false, cond, not, List, [], ◌∷◌, ◌++◌, ℕ, zero, suc, ◌+◌, ◌-◌, ◌≤◌, ◌<◌, ℤ, pos, length, take, get_or, length-append, add-one, arith}
 use Rattle.std.proofs.Math.Nat.{zero-add}
 use Rattle.std.proofs.Math.Seq.{take-suc, length-take-le}
 use Rattle.std.specs.List.{count_by, zip}
+use Rattle.std.proofs.lemmas.List.Sums.{sum_by-cons}
 use Rattle.arith.specs.Same.{same}
 use Rattle.records.specs.declared.fields.Record.{Record}
 use Rattle.compare.specs.Differences.{Entry, entry, contents, in_step, of_field, of_record, extra}
@@ -39,19 +40,26 @@ pub turn_put : {A : Type 0} (f : ℕ → A → A → List Entry) (xs ys : List A
     Put old mid at middle (in_step f 0 (take k xs) (take k ys)) → Put mid new middle end (f k (get_or xs k d) (get_or ys k d)) → Put old new at end (in_step f 0 (take (k + 1) xs) (take (k + 1) ys))
 turn_put f xs ys d k h g p q = rw (turn f xs ys d k h g) (put_then p q)
 
+abbrev differ : ℤ × ℤ → Bool
+differ p = not (same p.0 p.1)
+
 -- as many entries as there are places at which the contents differ, whatever the record's number
-as_many : (i k : ℕ) (xs ys : List ℤ) → count_by (λ (p : ℤ × ℤ). not (same p.0 p.1)) (zip xs ys) ≡ length (in_step (of_field i) k xs ys)
+as_many : (i k : ℕ) (xs ys : List ℤ) → count_by differ (zip xs ys) ≡ length (in_step (of_field i) k xs ys)
 as_many i k [] ys = refl
 as_many i k (x ∷ xs) [] = refl
-as_many i k (x ∷ xs) (y ∷ ys) = go (same x y) (as_many i (suc k) xs ys)
+as_many i k (x ∷ xs) (y ∷ ys) = sum_by-cons (λ (p : ℤ × ℤ). cond (differ p) 1 0) (x, y) (zip xs ys) ∙ go (same x y) (as_many i (suc k) xs ys)
   where
-    go : (b : Bool) {n : ℕ} {es : List Entry} → n ≡ length es → cond (not b) (suc n) n ≡ length (cond b [] (entry i k x y ∷ []) ++ es)
-    go true e = e
-    go false e = ap suc e
+    go : (b : Bool) → count_by differ (zip xs ys) ≡ length (in_step (of_field i) (suc k) xs ys) → cond (not b) 1 0 + count_by differ (zip xs ys) ≡ length (cond b [] (entry i k x y ∷ []) ++ in_step (of_field i) (suc k) xs ys)
+    go true e = omega (arith, e)
+    go false e = omega (arith, e)
 
 pub record_count : (i : ℕ) (r s : Record) → count_by (λ (p : ℤ × ℤ). not (same p.0 p.1)) (zip (contents r) (contents s)) ≡ length (of_record i r s)
 unfolding of_record
 record_count i r s = as_many i 0 (contents r) (contents s)
+
+-- so it does not turn on that number
+pub record_as_long : (i j : ℕ) (r s : Record) → length (of_record i r s) ≡ length (of_record j r s)
+record_as_long i j r s = sym (record_count i r s) ∙ record_count j r s
 
 -- the entries of two records, by their contents
 pub of_contents : (i : ℕ) (r s : Record) {xs ys : List ℤ} → xs ≡ contents r → ys ≡ contents s → in_step (of_field i) 0 xs ys ≡ of_record i r s

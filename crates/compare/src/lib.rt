@@ -38,6 +38,7 @@ impl From<NotCompared> for Refusal {
 }
 
 // Lists the differences of two files, four numbers to each, from the target's start on; answers how many there are.
+#[tactic(auto, unfolding(crate::specs::Comparison::compare_outcome))]
 pub fn compare_files(
     first: &[u8],
     second: &[u8],

@@ -1,7 +1,7 @@
 // The differences of two files that can be read.
 ghost use Rattle.std.specs.Prelude.{◌≡◌, ◌+◌, ◌-◌, ◌*◌, ◌≤◌, leb, length, min};
 ghost use Rattle.compare.specs.Differences.{in_step, of_record};
-ghost use Rattle.records.specs.Files.{records_of};
+ghost use Rattle.records.specs.Files.{most_read, records_of};
 ghost use Rattle.compare.specs.Comparison.{file_differences, entry_length, compare_outcome, listed_into};
 ghost use Rattle.compare.specs.Code.Puts.{Put};
 
@@ -26,7 +26,8 @@ pub(crate) struct Pair<'a> {
 impl<'a> Pair<'a> {
     // How many records both files have.
     fn both(self) -> usize
-        ensures { result ≡ min (length (records_of self.entry.first.bytes.now)) (length (records_of self.entry.second.bytes.now)) }
+        ensures both { result ≡ min (length (records_of self.entry.first.bytes.now)) (length (records_of self.entry.second.bytes.now)) }
+        ensures few { result ≤ most_read }
     {
         self.first.count().min(self.second.count())
     }
@@ -80,6 +81,7 @@ impl<'a> Pair<'a> {
     }
 
     // Lists the differences, from the target's start on; answers how many there are.
+    #[tactic(auto, unfolding(crate::specs::Comparison::compare_outcome))]
     pub(crate) fn list(self, target: &mut [i64]) -> Result<usize, NotCompared>
         ensures outcome { result ≡ compare_outcome self.entry.first.bytes.now self.entry.second.bytes.now (length target.old) }
         ensures target { target.new ≡ listed_into result self.entry.first.bytes.now self.entry.second.bytes.now target.old }
