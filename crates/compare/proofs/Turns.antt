@@ -8,7 +8,6 @@ use Rattle.arith.specs.Same.{same}
 use Rattle.records.specs.declared.fields.Record.{Record}
 use Rattle.compare.specs.Differences.{Entry, entry, contents, in_step, of_field, of_record, extra}
 use Rattle.compare.specs.InStepLaws.{in_step_last}
-use Rattle.compare.specs.EntryLaws.{field_length}
 use Rattle.compare.specs.Code.Puts.{Put}
 use Rattle.compare.proofs.Stores.{put_then}
 

@@ -1,5 +1,5 @@
 -- The differences of two files by their parts: the records that both have, and those that only one has.
-use Rattle.std.proofs.Common.{◌≡◌, refl, ap, ◌∙◌, List, ◌++◌, ℕ, ◌+◌, ◌-◌, ◌*◌, ◌≤◌, ◌<◌, ℤ, min, length, take, get_or, length-append, arith}
+use Rattle.std.proofs.Common.{◌≡◌, refl, ap, List, ◌++◌, ℕ, ◌+◌, ◌-◌, ◌*◌, ◌≤◌, ◌<◌, ℤ, min, length, take, get_or, length-append, arith}
 use Rattle.records.specs.Files.{zero_record, records_of}
 use Rattle.records.specs.declared.fields.Record.{Record}
 use Rattle.compare.specs.Differences.{Entry, field_count, only_first, only_second, in_step, of_record, extra, beyond, differences}

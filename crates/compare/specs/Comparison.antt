@@ -5,7 +5,6 @@ use Rattle.refusal.specs.declared.Refusal.TheVariants as refusal
 use Rattle.records.specs.Files.{form_of, records_of}
 use Rattle.records.specs.Columns.{over}
 use Rattle.records.specs.declared.files.Form.{Form}
-use Rattle.records.specs.declared.files.Form.TheVariants as form
 use Rattle.compare.specs.Differences.{Entry, differences, numbers}
 use Rattle.compare.specs.declared.NotCompared.{NotCompared}
 use Rattle.compare.specs.declared.NotCompared.TheVariants.{First, Second, NoRoom}
@@ -23,16 +22,16 @@ abbrev pub list_outcome : (n room : ℕ) → Result ℕ NotCompared
 list_outcome n room = cond (leb (entry_length * n) room) (Ok n) (Err NoRoom)
 
 -- before it stands the refusal of a file that cannot be read, and the first file's stands before the second's
-abbrev pub forms_outcome : (first second : Form) (n room : ℕ) → Result ℕ NotCompared
-forms_outcome (form.Refused r) g n room = Err (First r)
-forms_outcome (form.Records h k) (form.Refused r) n room = Err (Second r)
-forms_outcome (form.Records h k) (form.Records j l) n room = list_outcome n room
+abbrev pub forms_outcome : (first second : Result Form Refusal) (n room : ℕ) → Result ℕ NotCompared
+forms_outcome (Err r) g n room = Err (First r)
+forms_outcome (Ok f) (Err r) n room = Err (Second r)
+forms_outcome (Ok f) (Ok g) n room = list_outcome n room
 
 -- the answer for two files and a target with this room
 unfoldable pub compare_outcome : (first second : List ℕ) (room : ℕ) → Result ℕ NotCompared
 compare_outcome a b room = forms_outcome (form_of a) (form_of b) (length (file_differences a b)) room
 
--- the refusal that a comparison ends with, by its number in the list of refusals 12 where the differences have no room
+-- the refusal that a comparison ends with: that of the file, or 12 where the differences have no room
 abbrev pub refusal_of : NotCompared → Refusal
 refusal_of (First r) = r
 refusal_of (Second r) = r

@@ -13,8 +13,8 @@ pub(crate) const ENTRY_LENGTH: usize = 4;
 // A target, written from its start up to where the next entry goes.
 #[derive(Drop)]
 pub(crate) struct Entries<'a> {
-    target: &'a mut [i64],
-    end: usize,
+    pub(crate) target: &'a mut [i64],
+    pub(crate) end: usize,
 }
 
 impl<'a> Entries<'a> {

@@ -39,11 +39,7 @@ impl From<NotCompared> for Refusal {
 
 // Lists the differences of two files, four numbers to each, from the target's start on; answers how many there are.
 #[tactic(auto, unfolding(crate::specs::Comparison::compare_outcome))]
-pub fn compare_files(
-    first: &[u8],
-    second: &[u8],
-    target: &mut [i64],
-) -> Result<usize, NotCompared>
+pub fn compare_files(first: &[u8], second: &[u8], target: &mut [i64]) -> Result<usize, NotCompared>
     ensures outcome { result ≡ compare_outcome first.now second.now (length target.old) }
     ensures target { target.new ≡ listed_into result first.now second.now target.old }
     ensures unchanged { (first.exit.now ≡ first.entry.now) × (second.exit.now ≡ second.entry.now) }

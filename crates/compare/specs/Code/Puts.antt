@@ -1,5 +1,5 @@
 -- Entries written into a target.
-use Rattle.std.specs.Prelude.{◌≡◌, List, ℕ, ◌+◌, ◌*◌, ◌≤◌, ℤ, length}
+use Rattle.std.specs.Prelude.{◌≡◌, List, ℕ, ◌+◌, ◌*◌, ℤ, length}
 use Rattle.std.proofs.lemmas.List.Edits.{sets}
 use Rattle.compare.specs.Differences.{Entry, numbers}
 use Rattle.compare.specs.Comparison.{entry_length}

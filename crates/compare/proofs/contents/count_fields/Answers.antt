@@ -1,5 +1,5 @@
 -- `count_fields` meets its contract: a record has an entry for each field that differs.
-use Rattle.std.proofs.Common.{refl, ◌∙◌}
+use Rattle.std.proofs.Common.{◌∙◌}
 use Rattle.compare.proofs.Turns.{record_count}
 use Rattle.compare.proofs.contents.count_fields.Goals as goal
 

@@ -1,5 +1,5 @@
 -- `count_differing` meets its contract: each turn adds the fields of one record.
-use Rattle.std.proofs.Common.{◌≡◌, ◌≤◌, ap, sym, length, ◌∙◌, arith}
+use Rattle.std.proofs.Common.{◌≤◌, ap, sym, length, ◌∙◌, arith}
 use Rattle.compare.specs.Differences.{field_count}
 use Rattle.compare.specs.EntryLaws.{length_of_record}
 use Rattle.compare.proofs.Whole.{entries_all, next_length}

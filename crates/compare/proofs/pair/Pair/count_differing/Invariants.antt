@@ -7,5 +7,5 @@ use Rattle.compare.proofs.pair.Pair.count_differing.Given as goal
 abbrev pub invariant-loop-i : goal.invariant-loop-i
 invariant-loop-i l = record {
   few : l.count ≤ field_count * l.i;
-  counted : l.count ≡ length (entries_to l.i l.self.first.bytes.now l.self.second.bytes.now)
+  counted : l.count ≡ length (entries_to l.i l.self.first.bytes.now l.self.second.bytes.now);
 }

@@ -1,5 +1,5 @@
 -- `list` meets its contract: the differences are written from the target's start on, where it has room.
-use Rattle.std.proofs.Common.{rules, ◌≡◌, sym, ◌∙◌, leb-true}
+use Rattle.std.proofs.Common.{rules, sym, ◌∙◌, leb-true}
 use Rattle.compare.proofs.Stores.{put_over}
 use Rattle.compare.proofs.pair.Pair.list.Goals as goal
 

@@ -8,11 +8,11 @@ use Rattle.compare.proofs.readable.ReadableFile.count.Goals as goal
 pub returns-clause-count : goal.returns-clause-count
 returns-clause-count c =
     let f = c.args.self in
-    let k = form_readable f.bytes.now f.record_length f.count f.form in
+    let k = form_readable f.bytes.now f.form.record_length f.form.count f.read in
     sym (length_records f.bytes.now k.0 ∙ k.2)
 
 pub returns-clause-few : goal.returns-clause-few
 returns-clause-few c =
     let f = c.args.self in
-    let k = form_readable f.bytes.now f.record_length f.count f.form in
+    let k = form_readable f.bytes.now f.form.record_length f.form.count f.read in
     omega (arith, k.0.few, k.2, most_read_lem (record_length_in f.bytes.now))

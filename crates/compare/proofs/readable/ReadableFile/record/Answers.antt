@@ -8,5 +8,5 @@ use Rattle.compare.proofs.readable.ReadableFile.record.Goals as goal
 pub returns : goal.returns
 returns c =
     let f = c.args.self in
-    let k = form_readable f.bytes.now f.record_length f.count f.form in
+    let k = form_readable f.bytes.now f.form.record_length f.form.count f.read in
     c.record_at.ensures.record ∙ ap (λ (m : ℕ). record_at m f.bytes.now c.args.i) (sym k.1) ∙ readable_record f.bytes.now c.args.i k.0
