@@ -1,4 +1,1 @@
-pub mod Calls
-pub mod Filling
-pub mod Loading
-pub mod Tests
+pub mod Joining

@@ -1,12 +1,13 @@
 -- A caller who reaches the same places of two tables, and finds the same lots there, is told the same; and so it stays.
-use Rattle.std.specs.Prelude.{◌≡◌, refl, Bool, true, false, cond, ◌&&◌, List, ℕ, ◌<◌, eqb, ltb, length}
+use Rattle.std.specs.Prelude.{◌≡◌, refl, Result, Ok, Err, Bool, true, false, cond, ◌&&◌, List, ℕ, ◌<◌, eqb, ltb, length}
 use Rattle.std.proofs.Common.{ap, sym, ◌∙◌, get_or-set_same, ltb-true, eqb-true}
 use Rattle.std.proofs.lemmas.Bool.{false≢true, eqb-false}
 use Rattle.arith.specs.TestLaws.{and_both}
-use Rattle.refusal.specs.declared.Refusal.TheVariants.{NoSuchPlace}
 use Rattle.board.specs.declared.Lot.{Lot}
 use Rattle.board.specs.declared.Told.{Told}
-use Rattle.board.specs.declared.Told.TheVariants.{Holds, Refused}
+use Rattle.board.specs.declared.Told.TheVariants.{Holds}
+use Rattle.board.specs.declared.Denied.{Denied}
+use Rattle.board.specs.declared.Denied.TheVariants.{NoSuchPlace}
 use Rattle.board.specs.Table.{zero_lot, with_job, lot_at, Call, reads, assigns, caller, assign_told, is_stored, put, reaches, tell, next}
 use Rattle.board.specs.TableLaws.{put_other, next_length, next_spares}
 
@@ -20,7 +21,7 @@ module _ {Who : Type 0} (may may' : Who → ℕ → Bool) (w : Who) where
 stored_reaches : {Who : Type 0} (may : Who → ℕ → Bool) (t : List Lot) (w : Who) (p stamp job : ℕ) → is_stored (tell may t (assigns w p stamp job)) ≡ true → reaches may t w p ≡ true
 stored_reaches may t w p stamp job = go (reaches may t w p)
   where
-    go : (b : Bool) → is_stored (cond b (assign_told (lot_at t p) stamp) (Refused NoSuchPlace 0)) ≡ true → b ≡ true
+    go : (b : Bool) → is_stored (cond b (assign_told (lot_at t p) stamp) (Err NoSuchPlace)) ≡ true → b ≡ true
     go true e = refl
     go false e = absurd (false≢true e)
 
@@ -41,16 +42,16 @@ put_alike true t t' p q job h h' e f = go (eqb q p) refl
 
 module _ {Who : Type 0} (may may' : Who → ℕ → Bool) (w : Who) (t t' : List Lot) (a : Alike may may' w t t') where
   -- what is told by the lot that is found at a place is the same
-  found_alike : (f : Lot → Told) (p : ℕ) → cond (reaches may t w p) (f (lot_at t p)) (Refused NoSuchPlace 0) ≡ cond (reaches may' t' w p) (f (lot_at t' p)) (Refused NoSuchPlace 0)
-  found_alike f p = go (reaches may t w p) refl ∙ ap (λ (b : Bool). cond b (f (lot_at t' p)) (Refused NoSuchPlace 0)) (a.reach p)
+  found_alike : (f : Lot → Result Told Denied) (p : ℕ) → cond (reaches may t w p) (f (lot_at t p)) (Err NoSuchPlace) ≡ cond (reaches may' t' w p) (f (lot_at t' p)) (Err NoSuchPlace)
+  found_alike f p = go (reaches may t w p) refl ∙ ap (λ (b : Bool). cond b (f (lot_at t' p)) (Err NoSuchPlace)) (a.reach p)
     where
-      go : (b : Bool) → reaches may t w p ≡ b → cond b (f (lot_at t p)) (Refused NoSuchPlace 0) ≡ cond b (f (lot_at t' p)) (Refused NoSuchPlace 0)
+      go : (b : Bool) → reaches may t w p ≡ b → cond b (f (lot_at t p)) (Err NoSuchPlace) ≡ cond b (f (lot_at t' p)) (Err NoSuchPlace)
       go true e = ap f (a.lot p e)
       go false e = refl
 
   -- so w's own call is told the same
   pub tell_alike : (c : Call Who) → caller c ≡ w → tell may t c ≡ tell may' t' c
-  tell_alike (reads v p) e = rw e (found_alike Holds p)
+  tell_alike (reads v p) e = rw e (found_alike (λ l. Ok (Holds l)) p)
   tell_alike (assigns v p stamp job) e = rw e (found_alike (λ l. assign_told l stamp) p)
 
   -- a call leaves the places that w reaches
@@ -66,7 +67,7 @@ module _ {Who : Type 0} (may may' : Who → ℕ → Bool) (w : Who) (t t' : List
         reach = λ q. next_reach c q ∙ a.reach q ∙ sym (ap (λ (n : ℕ). may' w q && ltb q n) (next_length may' t' c));
         lot = λ q h.
             put_alike (is_stored (tell may t c)) t t' p q job (λ e. reached_place may t w p (there e)) (λ e. reached_place may' t' w p (sym (a.reach p) ∙ there e)) (λ e. a.lot p (there e)) (a.lot q (sym (next_reach c q) ∙ h))
-            ∙ ap (λ (d : Told). lot_at (put (is_stored d) t' p job) q) (tell_alike c refl);
+            ∙ ap (λ (d : Result Told Denied). lot_at (put (is_stored d) t' p job) q) (tell_alike c refl);
       }
 
   pub own_alike : (c : Call Who) → caller c ≡ w → Alike may may' w (next may t c) (next may' t' c)

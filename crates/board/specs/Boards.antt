@@ -1,5 +1,5 @@
 -- A board as a table of lots, whose its places are, and what its methods hand back (document 02, No. 6 and 11). Definitions only.
-use Rattle.std.specs.Prelude.{Bool, cond, List, [], ◌∷◌, ◌++◌, ℕ, ltb, leb, length, take, replicate}
+use Rattle.std.specs.Prelude.{Result, Ok, Err, Bool, cond, List, [], ◌∷◌, ◌++◌, ℕ, eqb, ltb, leb, length, take, replicate}
 use Rattle.records.specs.declared.fields.Record.{Record}
 use Rattle.records.specs.Columns.{over}
 use Rattle.board.specs.declared.Party.{Party}
@@ -7,6 +7,8 @@ use Rattle.board.specs.declared.Party.TheVariants.{Ours, Partner}
 use Rattle.board.specs.declared.Lot.{Lot}
 use Rattle.board.specs.declared.Board.{Board}
 use Rattle.board.specs.declared.Told.{Told}
+use Rattle.board.specs.declared.Denied.{Denied}
+use Rattle.board.specs.declared.Denied.TheVariants.{NoSuchPlace}
 use Rattle.board.specs.declared.Answered.{Answered}
 use Rattle.board.specs.Table.{most_lots, zero_lot, has_room, table_from, load_told, Call, tell, next}
 
@@ -35,6 +37,10 @@ abbrev pub owns : (ours : ℕ) → Party → ℕ → Bool
 owns ours Ours p = ltb p ours
 owns ours Partner p = leb ours p
 
+-- the parties by their numbers: 0 is ours and 1 the partner; no place is another number's, which is refusal 17
+abbrev pub party_numbered : ℕ → Result Party Denied
+party_numbered n = cond (eqb n 0) (Ok Ours) (cond (eqb n 1) (Ok Partner) (Err NoSuchPlace))
+
 -- a call hands back the board with its table after the call, and what the table tells a caller who may touch his own places
 abbrev pub handed : Board → Call Party → Answered
 handed b c = record { board = with_table b (next (owns b.ours) (table_of b) c); told = tell (owns b.ours) (table_of b) c }
@@ -44,6 +50,6 @@ abbrev pub board_after : Board → List (Call Party) → Board
 board_after b [] = b
 board_after b (c ∷ cs) = board_after (handed b c).board cs
 
-abbrev pub told_in : Board → List (Call Party) → List Told
+abbrev pub told_in : Board → List (Call Party) → List (Result Told Denied)
 told_in b [] = []
 told_in b (c ∷ cs) = (handed b c).told ∷ told_in (handed b c).board cs

@@ -1,5 +1,5 @@
 -- What one house learns of a board that two houses share (document 02, No. 11): the statement.
-use Rattle.std.specs.Prelude.{◌≡◌, Bool, true, false, cond, List, [], ◌∷◌, ℕ, length, take, drop}
+use Rattle.std.specs.Prelude.{◌≡◌, Result, Ok, Bool, true, false, cond, List, [], ◌∷◌, ℕ, length, take, drop}
 use Rattle.records.specs.declared.fields.Record.{Record}
 use Rattle.board.specs.declared.Party.{Party}
 use Rattle.board.specs.declared.Party.TheVariants.{Ours, Partner}
@@ -7,6 +7,7 @@ use Rattle.board.specs.declared.Lot.{Lot}
 use Rattle.board.specs.declared.Board.{Board}
 use Rattle.board.specs.declared.Told.{Told}
 use Rattle.board.specs.declared.Told.TheVariants.{Loaded}
+use Rattle.board.specs.declared.Denied.{Denied}
 use Rattle.board.specs.declared.Answered.{Answered}
 use Rattle.board.specs.Table.{Call, caller}
 use Rattle.board.specs.Boards.{table_of, loaded, board_after, told_in}
@@ -38,7 +39,7 @@ calls_of w [] = []
 calls_of w (c ∷ cs) = cond (is_own w c) (c ∷ calls_of w cs) (calls_of w cs)
 
 -- of what all calls are told, what its own are told
-abbrev pub told_of : Party → List (Call Party) → List Told → List Told
+abbrev pub told_of : Party → List (Call Party) → List (Result Told Denied) → List (Result Told Denied)
 told_of w [] ds = []
 told_of w (c ∷ cs) [] = []
 told_of w (c ∷ cs) (d ∷ ds) = cond (is_own w c) (d ∷ told_of w cs ds) (told_of w cs ds)
@@ -65,7 +66,7 @@ part_of Partner d = record { load = d.theirs; first = first_of (length d.ours) d
 
 -- the house's view of a day: what each of its calls is told, and its lots at the end
 pub record View : Type 0 where
-  pub told : List Told
+  pub told : List (Result Told Denied)
   pub lots : List Lot
 
 abbrev pub view_of : Party → Day → View
@@ -73,4 +74,4 @@ view_of w d = record { told = told_of w d.calls (told_in (morning d).board d.cal
 
 -- two days, neither load refused, in which the house has the same part give it the same view
 abbrev pub Isolated : Party → Type 0
-Isolated w = (d e : Day) → (morning d).told ≡ Loaded → (morning e).told ≡ Loaded → part_of w d ≡ part_of w e → view_of w d ≡ view_of w e
+Isolated w = (d e : Day) → (morning d).told ≡ Ok Loaded → (morning e).told ≡ Ok Loaded → part_of w d ≡ part_of w e → view_of w d ≡ view_of w e

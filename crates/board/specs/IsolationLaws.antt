@@ -1,5 +1,5 @@
 -- A house's view of a day turns on its part in the day alone.
-use Rattle.std.specs.Prelude.{◌≡◌, refl, Bool, true, false, cond, ◌&&◌, List, [], ◌∷◌, ◌++◌, map, ℕ, ◌+◌, ◌-◌, ◌≤◌, ◌<◌, ltb, leb, length, take, drop, replicate}
+use Rattle.std.specs.Prelude.{◌≡◌, refl, Ok, Err, Bool, true, false, cond, ◌&&◌, List, [], ◌∷◌, ◌++◌, map, ℕ, ◌+◌, ◌-◌, ◌≤◌, ◌<◌, ltb, leb, length, take, drop, replicate}
 use Rattle.std.proofs.Common.{ap, sym, ◌∙◌, zero-add, arith, length-append, length-drop, drop_of_length-le, get_or-take, get_or-drop, get_or-append-add, ext_get_or, length-take-le, lt-ltb, le-ltb, ltb-true, le-leb, leb-true}
 use Rattle.std.proofs.lemmas.Bool.{false≢true}
 use Rattle.std.proofs.lemmas.List.{map-append, length-map, length-replicate}
@@ -7,12 +7,12 @@ use Rattle.std.proofs.Math.ListN.{get_or-append}
 use Rattle.std.proofs.Math.Seq.{take-length}
 use Rattle.arith.specs.TestLaws.{untrue, and_both, both_and}
 use Rattle.records.specs.declared.fields.Record.{Record}
-use Rattle.refusal.specs.declared.Refusal.TheVariants.{TooManyLots}
 use Rattle.board.specs.declared.Party.{Party}
 use Rattle.board.specs.declared.Party.TheVariants.{Ours, Partner}
 use Rattle.board.specs.declared.Lot.{Lot}
 use Rattle.board.specs.declared.Board.{Board}
-use Rattle.board.specs.declared.Told.TheVariants.{Loaded, Refused}
+use Rattle.board.specs.declared.Told.TheVariants.{Loaded}
+use Rattle.board.specs.declared.Denied.TheVariants.{TooManyLots}
 use Rattle.board.specs.declared.Answered.{Answered}
 use Rattle.board.specs.Table.{most_lots, zero_lot, fresh, load_told, lot_at, Call, caller, reaches, tell, next, table_after, answers}
 use Rattle.board.specs.TableLaws.{after_length}
@@ -175,10 +175,10 @@ behind_ours xs (y ∷ ys) t e =
 
 -- ---- a day
 
-fits : (rs : List Record) → load_told rs ≡ Loaded → length rs ≤ most_lots
+fits : (rs : List Record) → load_told rs ≡ Ok Loaded → length rs ≤ most_lots
 fits rs e = go (leb (length rs) most_lots) refl (ap is_refused e)
   where
-    go : (b : Bool) → leb (length rs) most_lots ≡ b → is_refused (cond b Loaded (Refused TooManyLots 0)) ≡ false → length rs ≤ most_lots
+    go : (b : Bool) → leb (length rs) most_lots ≡ b → is_refused (cond b (Ok Loaded) (Err TooManyLots)) ≡ false → length rs ≤ most_lots
     go true f g = leb-true (length rs) most_lots f
     go false f g = absurd (false≢true (sym g))
 
@@ -188,7 +188,7 @@ end_of d = table_after (owns (length d.ours)) (both d.ours d.theirs) d.calls
 
 -- a house that stands on the table of the loads has the view that its lots alone give it
 module _ (w : Party) (d : Day) (first : ℕ) (l : List Lot) (h : Stands (length d.ours) w first l (both d.ours d.theirs)) where
-  stands_view : lots_of w (board_of (length d.ours) (end_of d)) ≡ take (length l) (drop first (end_of d)) → (morning d).told ≡ Loaded →
+  stands_view : lots_of w (board_of (length d.ours) (end_of d)) ≡ take (length l) (drop first (end_of d)) → (morning d).told ≡ Ok Loaded →
       view_of w d ≡ view_behind first l (calls_of w d.calls)
   stands_view e m =
       let n = length d.ours in
@@ -200,7 +200,7 @@ module _ (w : Party) (d : Day) (first : ℕ) (l : List Lot) (h : Stands (length 
       λ i. record { told = x i; lots = y i }
 
 -- a house's view of a day is what its part alone gives
-pub view_alone : (w : Party) (d : Day) → (morning d).told ≡ Loaded → view_of w d ≡ alone (part_of w d)
+pub view_alone : (w : Party) (d : Day) → (morning d).told ≡ Ok Loaded → view_of w d ≡ alone (part_of w d)
 view_alone Ours d m =
     let n = length d.ours in
     let e = ap (take n) (table_board n (end_of d)) ∙ ap (λ (k : ℕ). take k (end_of d)) (sym (length-map d.ours fresh)) in

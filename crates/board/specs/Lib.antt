@@ -8,4 +8,3 @@ pub mod SharingLaws
 pub mod AlikeLaws
 pub mod Isolation
 pub mod IsolationLaws
-pub mod Code

@@ -1,38 +1,32 @@
 -- A call is told what its rule says, and one rule always applies; what a refusal carries and leaves; whose places a load gives.
-use Rattle.std.specs.Prelude.{◌≡◌, refl, Bool, true, false, cond, ◌&&◌, List, [], ◌++◌, map, ◌⊎◌, ℕ, ◌+◌, ◌≤◌, ◌<◌, eqb, ltb, leb, length}
+use Rattle.std.specs.Prelude.{◌≡◌, refl, Result, Ok, Err, Bool, true, false, cond, ◌&&◌, List, [], ◌++◌, map, ◌⊎◌, ℕ, ◌+◌, ◌≤◌, ◌<◌, eqb, ltb, leb, length}
 use Rattle.std.proofs.Common.{ap, sym, ◌∙◌, inl, inr, arith, length-append, lt-ltb, ltb-true, eq-eqb, ne_eqb, eqb-true, le-leb}
 use Rattle.std.proofs.lemmas.Bool.{false≢true, eqb-false, lt-leb}
 use Rattle.std.proofs.lemmas.List.{length-map}
 use Rattle.arith.specs.TestLaws.{and_both, both_and}
 use Rattle.refusal.specs.declared.Refusal.{Refusal}
-use Rattle.refusal.specs.declared.Refusal.TheVariants.{TooManyLots, NoSuchPlace, StaleStamp, LastStamp}
 use Rattle.records.specs.declared.fields.Record.{Record}
 use Rattle.board.specs.declared.Party.TheVariants.{Ours, Partner}
 use Rattle.board.specs.declared.Lot.{Lot}
 use Rattle.board.specs.declared.Told.{Told}
-use Rattle.board.specs.declared.Told.TheVariants.{Loaded, Holds, Stored, Refused}
-use Rattle.board.specs.Table.{most_lots, last_stamp, fresh, lot_at, Call, reads, assigns, put, is_stored, reaches, tell, next}
+use Rattle.board.specs.declared.Told.TheVariants.{Loaded, Holds, Stored}
+use Rattle.board.specs.declared.Denied.{Denied}
+use Rattle.board.specs.declared.Denied.TheVariants.{TooManyLots, NoSuchPlace, StaleStamp, LastStamp}
+use Rattle.board.specs.Table.{most_lots, last_stamp, fresh, refusal_of, stamp_of, lot_at, Call, reads, assigns, put, is_stored, reaches, tell, next}
 use Rattle.board.specs.Boards.{board_of, loaded, owns}
 use Rattle.board.specs.Rules.{Reached, Rule, read_no_place, read_lot, assign_no_place, stale, last, stored}
 
--- whether a call is refused, its refusal and its stamp; where it is not, any refusal and 0
-abbrev pub is_refused : Told → Bool
-is_refused Loaded = false
-is_refused (Holds l) = false
-is_refused Stored = false
-is_refused (Refused r s) = true
+-- whether a load or a call is refused
+abbrev pub is_refused : Result Told Denied → Bool
+is_refused (Ok d) = false
+is_refused (Err d) = true
 
-abbrev refusal_in : Told → Refusal
-refusal_in Loaded = NoSuchPlace
-refusal_in (Holds l) = NoSuchPlace
-refusal_in Stored = NoSuchPlace
-refusal_in (Refused r s) = r
-
-abbrev stamp_in : Told → ℕ
-stamp_in Loaded = 0
-stamp_in (Holds l) = 0
-stamp_in Stored = 0
-stamp_in (Refused r s) = s
+-- refusal 18 alone carries a stamp
+pub carries : (d : Denied) → (refusal_of d ≡ Refusal.StaleStamp) ⊎ (stamp_of d ≡ 0)
+carries TooManyLots = inr refl
+carries NoSuchPlace = inr refl
+carries (StaleStamp s) = inl refl
+carries LastStamp = inr refl
 
 module _ {Who : Type 0} (may : Who → ℕ → Bool) (t : List Lot) where
   reached_true : (w : Who) (p : ℕ) → Reached may t w p → reaches may t w p ≡ true
@@ -52,7 +46,7 @@ module _ {Who : Type 0} (may : Who → ℕ → Bool) (t : List Lot) where
   false_reached w p e h = false≢true (sym e ∙ reached_true w p h)
 
   -- a call is told what its rule says
-  pub rule_told : (c : Call Who) (d : Told) → Rule may t c d → tell may t c ≡ d
+  pub rule_told : (c : Call Who) (d : Result Told Denied) → Rule may t c d → tell may t c ≡ d
   rule_told c d (read_no_place w p f) = rw (reached_false w p f) refl
   rule_told c d (read_lot w p h) = rw (reached_true w p h) refl
   rule_told c d (assign_no_place w p stamp job f) = rw (reached_false w p f) refl
@@ -64,40 +58,28 @@ module _ {Who : Type 0} (may : Who → ℕ → Bool) (t : List Lot) where
   pub told_rule : (c : Call Who) → Rule may t c (tell may t c)
   told_rule (reads w p) = go (reaches may t w p) refl
     where
-      go : (b : Bool) → reaches may t w p ≡ b → Rule may t (reads w p) (cond b (Holds (lot_at t p)) (Refused NoSuchPlace 0))
+      go : (b : Bool) → reaches may t w p ≡ b → Rule may t (reads w p) (cond b (Ok (Holds (lot_at t p))) (Err NoSuchPlace))
       go true e = read_lot w p (true_reached w p e)
       go false e = read_no_place w p (false_reached w p e)
   told_rule (assigns w p stamp job) = go (reaches may t w p) (eqb stamp (lot_at t p).stamp) (eqb stamp last_stamp) refl refl refl
     where
       go : (a b c : Bool) → reaches may t w p ≡ a → eqb stamp (lot_at t p).stamp ≡ b → eqb stamp last_stamp ≡ c →
-          Rule may t (assigns w p stamp job) (cond a (cond b (cond c (Refused LastStamp 0) Stored) (Refused StaleStamp (lot_at t p).stamp)) (Refused NoSuchPlace 0))
+          Rule may t (assigns w p stamp job) (cond a (cond b (cond c (Err LastStamp) (Ok Stored)) (Err (StaleStamp (lot_at t p).stamp))) (Err NoSuchPlace))
       go false b c e f g = assign_no_place w p stamp job (false_reached w p e)
       go true false c e f g = stale w p stamp job (true_reached w p e) (eqb-false stamp (lot_at t p).stamp f)
       go true true true e f g = last w p stamp job (true_reached w p e) (eqb-true stamp (lot_at t p).stamp f) (eqb-true stamp last_stamp g)
       go true true false e f g = stored w p stamp job (true_reached w p e) (eqb-true stamp (lot_at t p).stamp f) (eqb-false stamp last_stamp g)
 
-  -- refusal 18 alone carries a stamp
-  pub carries : (c : Call Who) (r : Refusal) (s : ℕ) → tell may t c ≡ Refused r s → (r ≡ StaleStamp) ⊎ (s ≡ 0)
-  carries c r s e = go c (tell may t c) (told_rule c) e
-    where
-      go : (c : Call Who) (d : Told) → Rule may t c d → d ≡ Refused r s → (r ≡ StaleStamp) ⊎ (s ≡ 0)
-      go c d (read_no_place w p f) e = inr (sym (ap stamp_in e))
-      go c d (read_lot w p h) e = absurd (false≢true (ap is_refused e))
-      go c d (assign_no_place w p stamp job f) e = inr (sym (ap stamp_in e))
-      go c d (stale w p stamp job h f) e = inl (sym (ap refusal_in e))
-      go c d (last w p stamp job h f l) e = inr (sym (ap stamp_in e))
-      go c d (stored w p stamp job h f l) e = absurd (false≢true (ap is_refused e))
-
   -- a refused call leaves the table as it was
-  pub refused_next : (c : Call Who) (r : Refusal) (s : ℕ) → tell may t c ≡ Refused r s → next may t c ≡ t
-  refused_next (reads w p) r s e = refl
-  refused_next (assigns w p stamp job) r s e = ap (λ (d : Told). put (is_stored d) t p job) e
+  pub refused_next : (c : Call Who) (d : Denied) → tell may t c ≡ Err d → next may t c ≡ t
+  refused_next (reads w p) d e = refl
+  refused_next (assigns w p stamp job) d e = ap (λ (d : Result Told Denied). put (is_stored d) t p job) e
 
 -- a load of more than 64 records in all is refused and hands back the board of no lots; any other is taken, ours first
-pub load_over : (xs ys : List Record) → most_lots < length (xs ++ ys) → loaded xs ys ≡ record { board = board_of 0 []; told = Refused TooManyLots 0 }
+pub load_over : (xs ys : List Record) → most_lots < length (xs ++ ys) → loaded xs ys ≡ record { board = board_of 0 []; told = Err TooManyLots }
 load_over xs ys h = rw (lt-leb (length (xs ++ ys)) most_lots h) refl
 
-pub load_taken : (xs ys : List Record) → length (xs ++ ys) ≤ most_lots → loaded xs ys ≡ record { board = board_of (length xs) (map fresh (xs ++ ys)); told = Loaded }
+pub load_taken : (xs ys : List Record) → length (xs ++ ys) ≤ most_lots → loaded xs ys ≡ record { board = board_of (length xs) (map fresh (xs ++ ys)); told = Ok Loaded }
 load_taken xs ys h = rw (le-leb (length (xs ++ ys)) most_lots h) refl
 
 -- a load that is taken gives our house the first places, as many as its list has records, and the partner those behind them

@@ -1,10 +1,10 @@
 -- What dispatchers who share a board can rely on, of whichever house they are (document 02, No. 6 and 11): the statements.
-use Rattle.std.specs.Prelude.{◌≡◌, true, List, [], ◌∷◌, ◌++◌, ℕ, ◌+◌, ◌<◌, length}
-use Rattle.refusal.specs.declared.Refusal.TheVariants.{StaleStamp}
+use Rattle.std.specs.Prelude.{◌≡◌, Ok, Err, true, List, [], ◌∷◌, ◌++◌, ℕ, ◌+◌, ◌<◌, length}
 use Rattle.records.specs.declared.fields.Record.{Record}
 use Rattle.board.specs.declared.Party.{Party}
 use Rattle.board.specs.declared.Board.{Board}
-use Rattle.board.specs.declared.Told.TheVariants.{Stored, Refused}
+use Rattle.board.specs.declared.Told.TheVariants.{Stored}
+use Rattle.board.specs.declared.Denied.TheVariants.{StaleStamp}
 use Rattle.board.specs.Table.{last_stamp, with_job, table_from, lot_at, Call, assigns, table_after, answers, Untouched}
 use Rattle.board.specs.Boards.{board_of, table_of, ours_from, owns, loaded, handed, board_after, told_in}
 
@@ -44,6 +44,6 @@ module _ (b : Board) (w : Party) (p i : ℕ) (xs ys : List (Call Party)) where
 
   -- the first is stored, the second, with job j, is told the stamp that is now current, and the lot has the first's job
   pub record FirstStored (j : ℕ) : Type 0 where
-    pub first : (handed at_first (assigns w p seen i)).told ≡ Stored
-    pub second : (handed at_second (assigns w p seen j)).told ≡ Refused StaleStamp (seen + 1)
+    pub first : (handed at_first (assigns w p seen i)).told ≡ Ok Stored
+    pub second : (handed at_second (assigns w p seen j)).told ≡ Err (StaleStamp (seen + 1))
     pub lot : lot_at (table_of (handed at_second (assigns w p seen j)).board) p ≡ with_job (lot_at (table_of b) p) i

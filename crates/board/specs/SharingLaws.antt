@@ -1,16 +1,16 @@
 -- Dispatchers who share a board can rely on it: the laws.
-use Rattle.std.specs.Prelude.{◌≡◌, refl, List, [], ◌∷◌, ◌++◌, ℕ, zero, suc, ◌+◌, length, take, drop, replicate}
+use Rattle.std.specs.Prelude.{◌≡◌, refl, Result, Ok, Err, List, [], ◌∷◌, ◌++◌, ℕ, zero, suc, ◌+◌, length, take, drop, replicate}
 use Rattle.std.proofs.Common.{ap, sym, ◌∙◌, arith, drop_at}
 use Rattle.std.proofs.Math.Seq.{take-append_seam}
-use Rattle.refusal.specs.declared.Refusal.{Refusal}
-use Rattle.refusal.specs.declared.Refusal.TheVariants.{StaleStamp}
 use Rattle.records.specs.declared.fields.Record.{Record}
 use Rattle.records.specs.Columns.{over}
 use Rattle.board.specs.declared.Party.{Party}
 use Rattle.board.specs.declared.Lot.{Lot}
 use Rattle.board.specs.declared.Board.{Board}
 use Rattle.board.specs.declared.Told.{Told}
-use Rattle.board.specs.declared.Told.TheVariants.{Stored, Refused}
+use Rattle.board.specs.declared.Told.TheVariants.{Stored}
+use Rattle.board.specs.declared.Denied.{Denied}
+use Rattle.board.specs.declared.Denied.TheVariants.{StaleStamp}
 use Rattle.board.specs.Table.{most_lots, zero_lot, with_job, table_from, lot_at, Call, assigns, tell, next, table_after, answers, Untouched}
 use Rattle.board.specs.TableLaws.{next_length, told_after, swap, stored_lot, after_length, lot_after}
 use Rattle.board.specs.Boards.{board_of, table_of, with_table, ours_from, owns, handed, board_after, told_in}
@@ -60,8 +60,8 @@ table_next : (b : Board) (c : Call Party) → table_of (handed b c).board ≡ ne
 table_next b c = table_with b (next (owns b.ours) (table_of b) c) (next_length (owns b.ours) (table_of b) c)
 
 -- a refused call hands back the board as it was
-pub refused_board : (b : Board) (c : Call Party) (r : Refusal) (s : ℕ) → (handed b c).told ≡ Refused r s → (handed b c).board ≡ b
-refused_board b c r s e = ap (with_table b) (refused_next (owns b.ours) (table_of b) c r s e) ∙ with_own b
+pub refused_board : (b : Board) (c : Call Party) (d : Denied) → (handed b c).told ≡ Err d → (handed b c).board ≡ b
+refused_board b c d e = ap (with_table b) (refused_next (owns b.ours) (table_of b) c d e) ∙ with_own b
 
 -- a history from any board, through its table
 pub after_is : (b : Board) (cs : List (Call Party)) → board_after b cs ≡ with_table b (table_after (owns b.ours) (table_of b) cs)
@@ -78,7 +78,7 @@ told_is b [] = refl
 told_is b (c ∷ cs) =
     let may = owns b.ours in
     let t = next may (table_of b) c in
-    ap (λ (z : List Told). tell may (table_of b) c ∷ z) (told_is (with_table b t) cs ∙ ap (λ (z : List Lot). answers may z cs) (table_next b c))
+    ap (λ (z : List (Result Told Denied)). tell may (table_of b) c ∷ z) (told_is (with_table b t) cs ∙ ap (λ (z : List Lot). answers may z cs) (table_next b c))
 
 pub table_after_lem : (b : Board) (cs : List (Call Party)) → table_of (board_after b cs) ≡ table_after (owns b.ours) (table_of b) cs
 table_after_lem b cs =
@@ -136,7 +136,7 @@ first_stored b w p i xs ys h j =
     let t₁ = table_of b₁ in
     let r₁ = kept_place b xs w p (record { allowed = h.own; place = h.place }) in
     let l₁ : lot_at t₁ p ≡ l = kept_lot b xs p h.before in
-    let d₁ : tell may t₁ x ≡ Stored = rule_told may t₁ x Stored (stored w p s i r₁ (ap (λ (z : Lot). z.stamp) (sym l₁)) (λ e. omega (arith, e, h.under))) in
+    let d₁ : tell may t₁ x ≡ Ok Stored = rule_told may t₁ x (Ok Stored) (stored w p s i r₁ (ap (λ (z : Lot). z.stamp) (sym l₁)) (λ e. omega (arith, e, h.under))) in
     let b₂ = (handed b₁ x).board in
     let l₂ : lot_at (table_of b₂) p ≡ with_job l i =
     ap (λ (z : List Lot). lot_at z p) (table_next b₁ x) ∙ stored_lot may t₁ w p s i r₁.place d₁ ∙ ap (λ (z : Lot). with_job z i) l₁ in
@@ -146,10 +146,10 @@ first_stored b w p i xs ys h j =
     let t₃ = table_of b₃ in
     let l₃ : lot_at t₃ p ≡ with_job l i = kept_lot b₂ ys p h.between ∙ l₂ in
     let n₃ : (lot_at t₃ p).stamp ≡ s + 1 = ap (λ (z : Lot). z.stamp) l₃ in
-    let d₃ : tell (owns b₃.ours) t₃ y ≡ Refused StaleStamp (lot_at t₃ p).stamp =
-    rule_told (owns b₃.ours) t₃ y (Refused StaleStamp (lot_at t₃ p).stamp) (stale w p s j (kept_place b₂ ys w p r₂) (λ e. omega (arith, e, n₃))) in
+    let d₃ : tell (owns b₃.ours) t₃ y ≡ Err (StaleStamp (lot_at t₃ p).stamp) =
+    rule_told (owns b₃.ours) t₃ y (Err (StaleStamp (lot_at t₃ p).stamp)) (stale w p s j (kept_place b₂ ys w p r₂) (λ e. omega (arith, e, n₃))) in
     record {
       first = d₁;
-      second = d₃ ∙ ap (λ (n : ℕ). Refused StaleStamp n) n₃;
-      lot = ap (λ (z : Board). lot_at (table_of z) p) (refused_board b₃ y StaleStamp (lot_at t₃ p).stamp d₃) ∙ l₃;
+      second = d₃ ∙ ap (λ (n : ℕ). Err (StaleStamp n)) n₃;
+      lot = ap (λ (z : Board). lot_at (table_of z) p) (refused_board b₃ y (StaleStamp (lot_at t₃ p).stamp) d₃) ∙ l₃;
     }

@@ -1,11 +1,13 @@
 -- A plain table of lots, what a call on it is told, and the table after it (document 02, No. 6 and 11). Definitions only.
-use Rattle.std.specs.Prelude.{◌≡◌, Bool, true, false, ◌&&◌, cond, List, [], ◌∷◌, map, ℕ, ◌+◌, eqb, ltb, leb, length, get_or, set}
-use Rattle.refusal.specs.declared.Refusal.TheVariants.{TooManyLots, NoSuchPlace, StaleStamp, LastStamp}
+use Rattle.std.specs.Prelude.{◌≡◌, Result, Ok, Err, Bool, true, false, ◌&&◌, cond, List, [], ◌∷◌, map, ℕ, ◌+◌, eqb, ltb, leb, length, get_or, set}
+use Rattle.refusal.specs.declared.Refusal.{Refusal}
 use Rattle.records.specs.declared.fields.Record.{Record}
 use Rattle.records.specs.Files.{zero_record}
 use Rattle.board.specs.declared.Lot.{Lot}
 use Rattle.board.specs.declared.Told.{Told}
-use Rattle.board.specs.declared.Told.TheVariants.{Loaded, Holds, Stored, Refused}
+use Rattle.board.specs.declared.Told.TheVariants.{Loaded, Holds, Stored}
+use Rattle.board.specs.declared.Denied.{Denied}
+use Rattle.board.specs.declared.Denied.TheVariants.{TooManyLots, NoSuchPlace, StaleStamp, LastStamp}
 
 -- A board has at most 64 lots.
 abbrev pub most_lots : ℕ
@@ -36,8 +38,21 @@ abbrev pub table_from : List Record → List Lot
 table_from rs = cond (has_room rs) (map fresh rs) []
 
 -- what the load is told: refusal 16, or that the board is loaded
-abbrev pub load_told : List Record → Told
-load_told rs = cond (has_room rs) Loaded (Refused TooManyLots 0)
+abbrev pub load_told : List Record → Result Told Denied
+load_told rs = cond (has_room rs) (Ok Loaded) (Err TooManyLots)
+
+-- the refusal, and the current stamp with 18, which alone carries one; 0 with the others
+abbrev pub refusal_of : Denied → Refusal
+refusal_of TooManyLots = Refusal.TooManyLots
+refusal_of NoSuchPlace = Refusal.NoSuchPlace
+refusal_of (StaleStamp s) = Refusal.StaleStamp
+refusal_of LastStamp = Refusal.LastStamp
+
+abbrev pub stamp_of : Denied → ℕ
+stamp_of TooManyLots = 0
+stamp_of NoSuchPlace = 0
+stamp_of (StaleStamp s) = s
+stamp_of LastStamp = 0
 
 -- the lot at a place, counted from 0
 abbrev pub lot_at : List Lot → ℕ → Lot
@@ -53,15 +68,15 @@ caller (reads w p) = w
 caller (assigns w p stamp job) = w
 
 -- an assignment to a lot is told: refusal 18 with the current stamp, then 19, or that the job is stored
-abbrev pub assign_told : Lot → ℕ → Told
-assign_told l stamp = cond (eqb stamp l.stamp) (cond (eqb stamp last_stamp) (Refused LastStamp 0) Stored) (Refused StaleStamp l.stamp)
+abbrev pub assign_told : Lot → ℕ → Result Told Denied
+assign_told l stamp = cond (eqb stamp l.stamp) (cond (eqb stamp last_stamp) (Err LastStamp) (Ok Stored)) (Err (StaleStamp l.stamp))
 
 -- whether a call is told that its job is stored
-abbrev pub is_stored : Told → Bool
-is_stored Loaded = false
-is_stored (Holds l) = false
-is_stored Stored = true
-is_stored (Refused r stamp) = false
+abbrev pub is_stored : Result Told Denied → Bool
+is_stored (Ok Loaded) = false
+is_stored (Ok (Holds l)) = false
+is_stored (Ok Stored) = true
+is_stored (Err d) = false
 
 -- the table with a job at place p where it is stored, and otherwise as it was
 abbrev pub put : Bool → List Lot → (p job : ℕ) → List Lot
@@ -73,10 +88,14 @@ module _ {Who : Type 0} (may : Who → ℕ → Bool) where
   abbrev pub reaches : List Lot → Who → ℕ → Bool
   reaches t w p = may w p && ltb p (length t)
 
+  -- the lot at a place of the caller's, or refusal 17
+  abbrev pub found : List Lot → Who → ℕ → Result Lot Denied
+  found t w p = cond (reaches t w p) (Ok (lot_at t p)) (Err NoSuchPlace)
+
   -- what a call is told: refusal 17, or the lot, or what the assignment comes to
-  abbrev pub tell : List Lot → Call Who → Told
-  tell t (reads w p) = cond (reaches t w p) (Holds (lot_at t p)) (Refused NoSuchPlace 0)
-  tell t (assigns w p stamp job) = cond (reaches t w p) (assign_told (lot_at t p) stamp) (Refused NoSuchPlace 0)
+  abbrev pub tell : List Lot → Call Who → Result Told Denied
+  tell t (reads w p) = cond (reaches t w p) (Ok (Holds (lot_at t p))) (Err NoSuchPlace)
+  tell t (assigns w p stamp job) = cond (reaches t w p) (assign_told (lot_at t p) stamp) (Err NoSuchPlace)
 
   -- the table after a call
   abbrev pub next : List Lot → Call Who → List Lot
@@ -88,7 +107,7 @@ module _ {Who : Type 0} (may : Who → ℕ → Bool) where
   table_after t [] = t
   table_after t (c ∷ cs) = table_after (next t c) cs
 
-  abbrev pub answers : List Lot → List (Call Who) → List Told
+  abbrev pub answers : List Lot → List (Call Who) → List (Result Told Denied)
   answers t [] = []
   answers t (c ∷ cs) = tell t c ∷ answers (next t c) cs
 

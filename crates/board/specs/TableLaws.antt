@@ -1,9 +1,10 @@
 -- Laws of the table: what a call leaves as it was, and that calls at different places do not matter to each other.
-use Rattle.std.specs.Prelude.{◌≡◌, refl, Bool, true, false, List, [], ◌∷◌, ℕ, ◌<◌, length}
+use Rattle.std.specs.Prelude.{◌≡◌, refl, Result, Ok, Bool, true, false, List, [], ◌∷◌, ℕ, ◌<◌, length}
 use Rattle.std.proofs.Common.{ap, sym, ◌∙◌, length-set, get_or-set_same, get_or-set_other}
 use Rattle.std.proofs.lemmas.List.{set_comm}
 use Rattle.board.specs.declared.Lot.{Lot}
 use Rattle.board.specs.declared.Told.{Told}
+use Rattle.board.specs.declared.Denied.{Denied}
 use Rattle.board.specs.declared.Told.TheVariants.{Stored}
 use Rattle.board.specs.Table.{zero_lot, with_job, lot_at, Call, reads, assigns, is_stored, put, tell, next, table_after, Spares, Untouched}
 
@@ -47,13 +48,13 @@ module _ {Who : Type 0} (may : Who → ℕ → Bool) where
   swap t v w p q r s i j f =
       let x = assigns v p r i in
       let y = assigns w q s j in
-      ap (λ (d : Told). put (is_stored d) (next may t x) q j) (told_after t x w q s j (λ m e. f (sym e)))
+      ap (λ (d : Result Told Denied). put (is_stored d) (next may t x) q j) (told_after t x w q s j (λ m e. f (sym e)))
       ∙ put_put (is_stored (tell may t x)) (is_stored (tell may t y)) t p q i j f
-      ∙ ap (λ (d : Told). put (is_stored d) (next may t y) p i) (sym (told_after t y v p r i (λ m e. f e)))
+      ∙ ap (λ (d : Result Told Denied). put (is_stored d) (next may t y) p i) (sym (told_after t y v p r i (λ m e. f e)))
 
   -- the lot that a stored job leaves
-  pub stored_lot : (t : List Lot) (w : Who) (p stamp job : ℕ) → p < length t → tell may t (assigns w p stamp job) ≡ Stored → lot_at (next may t (assigns w p stamp job)) p ≡ with_job (lot_at t p) job
-  stored_lot t w p stamp job h e = ap (λ (d : Told). lot_at (put (is_stored d) t p job) p) e ∙ get_or-set_same t p (with_job (lot_at t p) job) zero_lot h
+  pub stored_lot : (t : List Lot) (w : Who) (p stamp job : ℕ) → p < length t → tell may t (assigns w p stamp job) ≡ Ok Stored → lot_at (next may t (assigns w p stamp job)) p ≡ with_job (lot_at t p) job
+  stored_lot t w p stamp job h e = ap (λ (d : Result Told Denied). lot_at (put (is_stored d) t p job) p) e ∙ get_or-set_same t p (with_job (lot_at t p) job) zero_lot h
 
   -- a history leaves the number of lots, and the lot of a place that it does not touch
   pub after_length : (t : List Lot) (cs : List (Call Who)) → length (table_after may t cs) ≡ length t
