@@ -8,8 +8,8 @@ ghost use Rattle.kept.specs.Keeping.{keep};
 ghost use Rattle.cct_c.specs.Plain.{plain_outcome, plain_form, plain_kept};
 
 use cct::Answer;
-use kept::Kept;
-use records::{Form, Outcome, Record, ZERO_RECORD};
+use records::{Columns, ColumnsMut, Form, Record, ZERO_RECORD};
+use refusal::Refusal;
 
 // What a function on files did: a count, or the number of the refusal and a count of 0.
 #[repr(C)]
@@ -17,6 +17,32 @@ use records::{Form, Outcome, Record, ZERO_RECORD};
 pub struct Done {
     pub count: usize,
     pub refusal: u8,
+}
+
+impl From<Result<usize, Refusal>> for Done {
+    ghost use Rattle.cct_c.specs.Plain.{plain_outcome};
+
+    ghost from_gives = { λ o d. d ≡ plain_outcome o };
+
+    fn from(outcome: Result<usize, Refusal>) -> Done {
+        match outcome {
+            Ok(count) => Done { count, refusal: 0 },
+            Err(refusal) => Done {
+                count: 0,
+                refusal: u8::from(refusal),
+            },
+        }
+    }
+}
+
+impl From<Result<Form, Refusal>> for Done {
+    ghost use Rattle.cct_c.specs.Plain.{plain_form};
+
+    ghost from_gives = { λ f d. d ≡ plain_form f };
+
+    fn from(form: Result<Form, Refusal>) -> Done {
+        Done::from(form.map(|form| form.count))
+    }
 }
 
 // The record of an answer, with a 1; or zeros.
@@ -27,48 +53,19 @@ pub struct KeptRecord {
     pub kept: u8,
 }
 
-fn plain_outcome(outcome: Outcome) -> Done
-    ensures { result ≡ plain_outcome outcome }
-{
-    match outcome {
-        Outcome::Refused(refusal) => Done {
-            count: 0,
-            refusal: refusal.number(),
-        },
-        Outcome::Done(n) => Done {
-            count: n,
-            refusal: 0,
-        },
-    }
-}
+impl From<Option<Record>> for KeptRecord {
+    ghost use Rattle.cct_c.specs.Plain.{plain_kept};
 
-fn plain_form(form: Form) -> Done
-    ensures { result ≡ plain_form form }
-{
-    match form {
-        Form::Refused(refusal) => Done {
-            count: 0,
-            refusal: refusal.number(),
-        },
-        Form::Records(_, records) => Done {
-            count: records,
-            refusal: 0,
-        },
-    }
-}
+    ghost from_gives = { λ r k. k ≡ plain_kept r };
 
-fn plain_kept(kept: Kept) -> KeptRecord
-    ensures { result ≡ plain_kept kept }
-{
-    match kept {
-        Kept::Kept(record) => KeptRecord {
-            fields: record,
-            kept: 1,
-        },
-        Kept::NotKept => KeptRecord {
-            fields: ZERO_RECORD,
-            kept: 0,
-        },
+    fn from(kept: Option<Record>) -> KeptRecord {
+        match kept {
+            Some(fields) => KeptRecord { fields, kept: 1 },
+            None => KeptRecord {
+                fields: ZERO_RECORD,
+                kept: 0,
+            },
+        }
     }
 }
 
@@ -90,7 +87,17 @@ pub extern "C" fn ck_write_records(
     ensures unchanged { columns u.exit.now v.exit.now place.exit.now low.exit.now high.exit.now duv.exit.now steps.exit.now class.exit.now ≡ columns u.entry.now v.entry.now place.entry.now low.entry.now high.entry.now duv.entry.now steps.entry.now class.entry.now }
     ensures back { ReadsBack (write_outcome (size_of (columns u.now v.now place.now low.now high.now duv.now steps.now class.now)) (length file.old)) (list_of (columns u.now v.now place.now low.now high.now duv.now steps.now class.now)) }
 {
-    plain_outcome(records::write_records(u, v, place, low, high, duv, steps, class, file))
+    let columns = Columns {
+        u,
+        v,
+        place,
+        low,
+        high,
+        duv,
+        steps,
+        class,
+    };
+    Done::from(records::write_records(columns, file))
 }
 
 // Reads the records of a file into the columns.
@@ -111,7 +118,17 @@ pub extern "C" fn ck_read_records(
     ensures unchanged { file.exit.now ≡ file.entry.now }
     ensures again { FileOfRecords (read_outcome file.now (size_of (columns u.old v.old place.old low.old high.old duv.old steps.old class.old))) file.now }
 {
-    plain_outcome(records::read_records(file, u, v, place, low, high, duv, steps, class))
+    let mut columns = ColumnsMut {
+        u,
+        v,
+        place,
+        low,
+        high,
+        duv,
+        steps,
+        class,
+    };
+    Done::from(records::read_records(file, &mut columns))
 }
 
 // The form of a file.
@@ -120,7 +137,7 @@ pub extern "C" fn ck_check_file(file: &[u8]) -> Done
     ensures form { result ≡ plain_form (form_of file.now) }
     ensures unchanged { file.exit.now ≡ file.entry.now }
 {
-    plain_form(records::check_form(file))
+    Done::from(records::check_form(file))
 }
 
 // Record i of a file, from 0.
@@ -137,5 +154,5 @@ pub extern "C" fn ck_record_at(file: &[u8], i: usize) -> Record
 pub extern "C" fn ck_record_of(u: u32, v: u32, answer: Answer) -> KeptRecord
     ensures { result ≡ plain_kept (keep u v answer) }
 {
-    plain_kept(kept::record_of(u, v, answer))
+    KeptRecord::from(kept::record_of(u, v, answer))
 }
