@@ -7,14 +7,16 @@ from typing import NamedTuple
 ROOT = Path(__file__).resolve().parent.parent
 OPENING, CLOSING = "([{", ")]}"
 FUNCTION = re.compile(r'^[ \t]*(?P<before>(?:pub(?:\([^)]*\))? +|const +|extern "C" +)*)fn +(?P<name>\w+)', re.MULTILINE)
-IMPL = re.compile(r"^impl(?: *<[^>]*>)? +(?P<type>\w+)[^\n]*\{$(?P<body>.*?)^\}$", re.MULTILINE | re.DOTALL)
+# An impl of a type, also of a trait for it, or a trait.
+IMPL = re.compile(r"^(?:impl(?: *<[^>]*>)? +(?:[\w:]+(?:<[^{]*>)? +for +)?|(?:pub +)?trait +)(?P<type>\w+)[^\n]*\{$(?P<body>.*?)^\}$",
+                  re.MULTILINE | re.DOTALL)
 CLAUSE = re.compile(r"\s*(?P<kind>requires|ensures)\b\s*(?P<label>\w*)\s*\{")
 COMMENT = r"//[^\n]*|/\*.*?\*/"
 LITERAL = r"""\bb(?:'(?:\\.|[^'\\])'|"(?:\\.|[^"\\])*")"""
 
 
 class Function(NamedTuple):
-    name: str  # `Type::name` for a method
+    name: str  # `Type::name` for a method, also of a trait's impl for the type; `Trait::name` for one that a trait declares
     public: bool
     parameters: tuple  # (name, type); a method's first is ("self", "self")
     requires: tuple  # what stands between the braces of each
@@ -35,6 +37,18 @@ def closing(text, at):
         if depth == 0:
             return k + 1
     raise ValueError("a bracket is not closed: " + text[at:at + 60])
+
+
+def after_generics(text, at):
+    """The index after the parameters in angle brackets that a name may have; an arrow closes none."""
+    if text[at] != "<":
+        return at
+    depth = 0
+    for k in range(at, len(text)):
+        depth += (text[k] == "<") - (text[k] == ">" and text[k - 1] != "-")
+        if depth == 0:
+            return k + 1
+    raise ValueError("an angle bracket is not closed: " + text[at:at + 60])
 
 
 def split_at_commas(text):
@@ -89,7 +103,7 @@ def functions(text):
     found = []
     for match in FUNCTION.finditer(text):
         owner = next((kind + "::" for low, high, kind in spans if low <= match.start() < high), "")
-        opening = text.index("(", match.end())
+        opening = text.index("(", after_generics(text, match.end()))
         end = closing(text, opening)
         parameters = tuple(map(parameter, split_at_commas(text[opening + 1:end - 1])))
         public = re.search(r"\bpub(?!\()", match["before"]) is not None
