@@ -3,9 +3,10 @@
     python3 tests/check_contracts.py               the crates and docs/TRACE.md
     python3 tests/check_contracts.py --self-test   small texts, each with one fault, which must be found
 
-Of every public function: it has an `ensures`; the result is given by an equation, `result ≡ ..`; it has no `requires`; what is lent
-by `&` is said to be unchanged, `x.exit.now ≡ x.entry.now`, in a promise of its own, as one of several joined by `×` or as one of
-`columns`; what is lent by `&mut` is spoken of as `.new`; docs/TRACE.md names it. Every promise is an equation: of the result, of what `&mut` lends as it is at the
+Of every public function, and of every one that a public trait declares: it has an `ensures`; the result is given by an equation,
+`result ≡ ..`; it has no `requires`; what is lent by `&` is said to be unchanged, `x.exit.now ≡ x.entry.now`, in a promise of its own,
+as one of several joined by `×` or as one of `columns`, and what columns hold as `held x.exit ≡ held x.entry`; what is lent by `&mut`
+is spoken of as `.new`; docs/TRACE.md names it. Every promise is an equation: of the result, of what `&mut` lends as it is at the
 end, or of what `&` lends as unchanged. Of those of an entry crate also: each parameter is spoken of. What departs from this stands
 below with its reason and must still be needed; a promise that is no equation, and a `requires` of an entry crate, must be, word for
 word, the one that stands here. Of the functions in WITHOUT_MULTIPLY, and of all that they call: no body has a `*`, a `/` or a `%`,
@@ -25,14 +26,13 @@ ENTRY_CRATES = ("board", "cct", "cct_c", "compare", "kept", "nearest", "records"
 
 # Functions with a `requires`, and why.
 REQUIRES = {
-    "locus::admit": "the tables are lent, so that a caller makes them once",
-    "locus::distance_on": "a span made for its places, and coordinates whose squares fit 64 bits",
-    "locus::point_at": "the tables are lent, and only places of the locus have a point",
-    "locus::point_on": "a span made for its places",
-    "locus::span_about": "the tables are lent, and entries are numbered from 1 to 24",
+    "locus::Locus::point_at": "only places of the locus have a point",
+    "locus::Locus::span_about": "entries are numbered from 1 to 24",
+    "locus::Span::distance_at": "a span made for its places, and coordinates whose squares fit 64 bits",
+    "locus::Span::point_at": "a span made for its places",
     "locus::squared_difference": "coordinates whose squares fit 64 bits",
     "search::run": "an admitted reading with the span about its entry, as admit and span_about hand them over",
-    "table::nearest_ready": "the table is lent, so that a caller makes it once, and an admitted reading with its distance, as admit hands it over",
+    "table::ReadyTable::nearest": "an admitted reading with its distance, as admit hands it over",
 }
 
 # Functions of entry crates with a `requires`: all that they require, word for word, and why.
@@ -48,12 +48,14 @@ PROMISES = {
                                 "as of records::write_records"),
     "cct_c::ck_salvage": (BESIDE, "KeptBack (salvage_outcome edges.now record_length bytes.now (length file.old) (length dropped.old)) edges.now "
                           "record_length bytes.now", "as of salvage::salvage"),
+    "locus::Locus::stored": (INSTEAD, "(result.us ≡ table_u) × (result.vs ≡ table_v)", "both tables are given, each by an equation"),
     "records::read_records": (BESIDE, "FileOfRecords result file.now",
                               "what `written_read` says of a list of bytes, for the machine's: no hypothesis is left"),
-    "records::write_records": (BESIDE, f"ReadsBack result (list_of {COLUMNS_LENT})",
+    "records::write_records": (BESIDE, "ReadsBack result (list_of (held columns.entry))",
                                "what `read_written` says of a list of records, for the machine's numbers: no hypothesis is left"),
     "salvage::salvage": (BESIDE, "KeptBack result edges.now record_length bytes.now",
                          "what `kept_back` says of a list of bytes, for the machine's: no hypothesis is left"),
+    "table::ReadyTable::new": (INSTEAD, "result.numbers ≡ ready_table", "the numbers are all that the table has"),
     "text::block": (INSTEAD, "Blocked scan input.now out.old out.new result",
                     "the record Blocked gives every field, and the whole buffer, by an equation each"),
     "text::finish": (INSTEAD, "Wrote 0 out.old out.new result (closes scan)",
@@ -70,10 +72,13 @@ WITHOUT_DIVISION = {
 }
 
 EQUATION = re.compile(r"^result ≡ (?P<value>.+)$")
-UNCHANGED = re.compile(r"(?P<name>«?\w+»?)\.exit\.now ≡ (?P=name)\.entry\.now")
+# What `x` lends by a reference, and what the columns hold that are lent as a value, or whose slices are lent to be written.
+UNCHANGED = re.compile(r"(?P<of>|held |held_mut )(?P<name>«?\w+»?)\.exit(?P<now>(?:\.now)?) ≡ (?P=of)(?P=name)\.entry(?P=now)")
+LENDS = "Columns"  # the type of a value that lends what it holds
+SAME_SLICES = re.compile(r"SameSlices (?P<name>\w+)\.new (?P=name)\.old")  # what is lent to be written is what was lent before
 SLICE = r"«?\w+»?\.(?:exit|entry)\.now"
 COLUMNS = re.compile(r"columns(?: %s)+" % SLICE)  # a record of its arguments: two are equal only where all of these are
-AT_END = re.compile(r"«?\w+»?\.new|columns(?: «?\w+»?\.new)+")
+AT_END = re.compile(r"(?:held_mut )?«?\w+»?\.new|columns(?: «?\w+»?\.new)+")
 ENDS = re.compile(r"\.(?:new|exit)\b")
 
 
@@ -103,22 +108,24 @@ def parts_of(promise):
 def unchanged_by(promise):
     """The names that a promise says to be unchanged, where it says nothing else."""
     equations = list(map(UNCHANGED.fullmatch, parts_of(promise)))
-    return {equation["name"].strip("«»") for equation in equations} if all(equations) else set()
+    if not all(equations) or any(equation["of"] == "" and equation["now"] == "" for equation in equations):
+        return set()
+    return {equation["name"].strip("«»") for equation in equations}
 
 
 def is_of_the_end(promise):
-    """Whether a promise gives what is lent, as it is at the end, by something that does not speak of the end."""
+    """Whether a promise gives what is lent, as it is at the end, by something that does not speak of the end, or says that it is the same slices."""
     left, equals, right = promise.partition(" ≡ ")
-    return AT_END.fullmatch(left) is not None and equals != "" and ENDS.search(right) is None
+    return SAME_SLICES.fullmatch(promise) is not None or AT_END.fullmatch(left) is not None and equals != "" and ENDS.search(right) is None
 
 
 def parameter_faults(name, kind, promises, is_entry):
     """What the promises leave unsaid about one parameter."""
     spoken = " ".join(promises)
     if kind.startswith("&mut"):
-        if not mentions(name + ".new", spoken):
+        if not mentions(name + ".new", " ".join(promise for promise in promises if not SAME_SLICES.fullmatch(promise))):
             yield "exit " + name
-    elif kind.startswith("&"):
+    elif kind.startswith("&") or kind == LENDS:
         if not any(name in unchanged_by(promise) for promise in promises):
             yield "unchanged " + name
     elif is_entry and not mentions(name, spoken):
@@ -137,8 +144,9 @@ def contract_faults(function, is_entry):
     for promise in function.ensures:
         if not (is_equation(promise) or is_of_the_end(promise) or unchanged_by(promise)):
             yield "promise " + promise
+    owner = function.name.partition("::")[0]
     for name, kind in function.parameters:
-        yield from parameter_faults(name, kind, function.ensures, is_entry)
+        yield from parameter_faults(name, owner if (name, kind) == ("self", "self") else kind, function.ensures, is_entry)
 
 
 class Rules(NamedTuple):
@@ -290,11 +298,44 @@ impl Board {
     }
 }
 
+pub trait Source {
+    ghost comes_to: { Self → ℕ };
+
+    fn convert(self) -> u32
+        ensures { result ≡ comes_to self };
+}
+
+impl Source for Board {
+    ghost comes_to = { λ b. 64 };
+
+    fn convert(self) -> u32 {
+        64
+    }
+}
+
+impl Columns<'_> {
+    pub fn len(self) -> usize
+        ensures length { result ≡ size_of (held self.entry) }
+        ensures same { held self.exit ≡ held self.entry }
+    {
+        8
+    }
+}
+
+pub fn fill<S: Source>(source: S, from: Columns, to: &mut ColumnsMut) -> usize
+    ensures answers { result ≡ filled (S.comes_to source) (held from.entry) }
+    ensures { held from.exit ≡ held from.entry }
+    ensures target { held_mut to.new ≡ filled_into result (held_mut to.old) }
+    ensures { SameSlices to.new to.old }
+{
+    from.len()
+}
+
 pub(crate) fn inner(x: u32) -> u32 {
     x
 }
 """
-TRACED = {"good::add", "good::point", "good::store", "good::Board::size"}
+TRACED = {"good::add", "good::point", "good::store", "good::Board::size", "good::Source::convert", "good::Columns::len", "good::fill"}
 
 # What is changed in the text above, and the words of a fault that must be found then.
 FAULTS = (
@@ -317,6 +358,12 @@ FAULTS = (
     ("≡ columns xs.entry.now ys.entry.now", "≡ columns xs.entry.now", "the lent `ys` is unchanged"),
     ("columns xs.exit.now ys.exit.now ≡ columns", "sum xs.exit.now ys.exit.now ≡ sum", "`ys` is unchanged"),
     ("≡ filled result rows.old", "≡ filled result rows.new", "a promise is no equation"),
+    ("        ensures { result ≡ comes_to self };", "        ;", "it has no ensures"),
+    ("held self.exit ≡ held self.entry", "held self.entry ≡ held self.entry", "the lent `self` is unchanged"),
+    ("held self.exit ≡ held self.entry", "self.exit ≡ self.entry", "the lent `self` is unchanged"),
+    ("held from.exit ≡ held from.entry", "held from.exit ≡ held_mut from.entry", "the lent `from` is unchanged"),
+    ("held_mut to.new ≡ filled_into", "held_mut to.old ≡ filled_into", "what `to` holds"),
+    ("SameSlices to.new to.old", "SameSlices to.new from.old", "a promise is no equation"),
     ("result ≡ size_of self }", "result ≡ size_of self } ensures { Sized 0 self result }", "is no equation"),
     ("pub fn add(", "pub fn plus(", "docs/TRACE.md does not name it"),
     ("pub(crate) fn inner", "pub fn inner", "it has no ensures"),

@@ -8,7 +8,7 @@ ROOT = Path(__file__).resolve().parent.parent
 OPENING, CLOSING = "([{", ")]}"
 FUNCTION = re.compile(r'^[ \t]*(?P<before>(?:pub(?:\([^)]*\))? +|const +|extern "C" +)*)fn +(?P<name>\w+)', re.MULTILINE)
 # An impl of a type, also of a trait for it, or a trait.
-IMPL = re.compile(r"^(?:impl(?: *<[^>]*>)? +(?:[\w:]+(?:<[^{]*>)? +for +)?|(?:pub +)?trait +)(?P<type>\w+)[^\n]*\{$(?P<body>.*?)^\}$",
+IMPL = re.compile(r"^(?:impl(?: *<[^>]*>)? +(?:[\w:]+(?:<[^{]*>)? +for +)?|(?P<trait>pub +)?trait +)(?P<type>\w+)[^\n]*\{$(?P<body>.*?)^\}$",
                   re.MULTILINE | re.DOTALL)
 CLAUSE = re.compile(r"\s*(?P<kind>requires|ensures)\b\s*(?P<label>\w*)\s*\{")
 COMMENT = r"//[^\n]*|/\*.*?\*/"
@@ -99,14 +99,14 @@ def closing_type(text, at):
 def functions(text):
     """Every function of a source file."""
     text = without_comments(text)
-    spans = [(m.start("body"), m.end("body"), m["type"]) for m in IMPL.finditer(text)]
+    spans = [(m.start("body"), m.end("body"), m["type"] + "::", m["trait"] is not None) for m in IMPL.finditer(text)]
     found = []
     for match in FUNCTION.finditer(text):
-        owner = next((kind + "::" for low, high, kind in spans if low <= match.start() < high), "")
+        owner, of_public_trait = next(((kind, public) for low, high, kind, public in spans if low <= match.start() < high), ("", False))
         opening = text.index("(", after_generics(text, match.end()))
         end = closing(text, opening)
         parameters = tuple(map(parameter, split_at_commas(text[opening + 1:end - 1])))
-        public = re.search(r"\bpub(?!\()", match["before"]) is not None
+        public = of_public_trait or re.search(r"\bpub(?!\()", match["before"]) is not None
         found.append(Function(owner + match["name"], public, parameters, *after_parameters(text, end)))
     if [f.name.split("::")[-1] for f in found] != re.findall(r"\bfn +(\w+)", text):
         raise ValueError("a function stands in a form that tests/rattle_source.py does not read")
