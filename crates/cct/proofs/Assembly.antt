@@ -9,11 +9,11 @@ use lib.IntN.{ℤ, pos, neg_ℤ}
 use mir.Syntax.{w32}
 use mir.Val.{SFits}
 use Rattle.arith.specs.Root.{root}
+use Rattle.std.proofs.Common.{Ok, Err}
 use Rattle.refusal.specs.declared.Refusal.{Refusal}
-use Rattle.reading.specs.declared.Converted.{Converted}
-use Rattle.reading.specs.declared.Converted.TheVariants as converted
+use Rattle.reading.specs.Convert.{Converted, point}
 use Rattle.locus.specs.declared.Span.{Span}
-use Rattle.locus.specs.declared.Admission.TheVariants as admitted
+use Rattle.locus.specs.declared.Nearest.{Nearest}
 use Rattle.locus.specs.Locus.{locus_v, distance_at}
 use Rattle.locus.specs.LocusLaws.{entry_distance_lem}
 use Rattle.locus.specs.Code.Pieces.{span_about}
@@ -26,7 +26,7 @@ use Rattle.search.specs.GoldenLaws.{after_inside, after_near}
 use Rattle.search.specs.Code.Found.{found}
 use Rattle.classes.specs.Edges.{edges_valid}
 use Rattle.classes.specs.Classes.{class_of}
-use Rattle.cct.specs.Answers.{checked_point, checked, duv_at, refused, accepted, answered, answer}
+use Rattle.cct.specs.Answers.{checked_point, checked, duv_at, refused, accepted, answer}
 use Rattle.cct.specs.Code.OnSpan.{OnSpan}
 
 -- a number below 2 ^ 31 with a minus sign fits an i32
@@ -40,10 +40,11 @@ unfolding duv_at
 duv_from u v place a b c = rw (a, b, c) refl
 
 -- the best point of a search for an admitted reading lies on its span, within the limit
-pub best_on : (u v m d n : ℕ) (span : Span) (s : Search) → admission u v ≡ admitted.Near m d → span ≡ span_about m → s ≡ found (distance_at u v) m n → OnSpan span u v s.best s.distance
+pub best_on : (u v n : ℕ) (near : Nearest) (span : Span) (s : Search) → admission u v ≡ Ok near → span ≡ span_about near.entry → s ≡ found (distance_at u v) near.entry n → OnSpan span u v s.best s.distance
 unfolding found
-best_on u v m d n span s near about e =
-    let a = admitted_near u v m d near in
+best_on u v n near span s h about e =
+    let m = near.entry in
+    let a = admitted_near u v m near.distance h in
     let ends = span_ends m span about in
     let i = after_inside (distance_at u v) m a.first a.last (steps_of n) (omega arith) in
     let f = after_near (distance_at u v) m a.first a.last (steps_of n) (omega arith) in
@@ -66,14 +67,10 @@ unfolding found accepted
 accepted_from es u v m n s duv class e g h = rw (g, h, e) refl
 
 -- the answer by its checks
-pub point_refused : (es : List ℕ) (u v n : ℕ) {r : Refusal} → admission u v ≡ admitted.Refused r → refused r ≡ answered es n (checked_point (converted.Point u v))
-unfolding checked_point
-point_refused es u v n e = rw e refl
+pub point_refused : (es : List ℕ) (u v n : ℕ) {c : Converted} {r : Refusal} → edges_valid es ≡ true → c ≡ Ok (point u v) → admission u v ≡ Err r → refused r ≡ answer es c n
+unfolding answer checked checked_point
+point_refused es u v n e f h = rw (e, f, h) refl
 
-pub point_accepted : (es : List ℕ) (u v n : ℕ) {m d : ℕ} → admission u v ≡ admitted.Near m d → accepted es n u v m ≡ answered es n (checked_point (converted.Point u v))
-unfolding checked_point
-point_accepted es u v n e = rw e refl
-
-pub edges_passed : (es : List ℕ) (c : Converted) (n : ℕ) {k : Converted} → edges_valid es ≡ true → c ≡ k → answered es n (checked_point k) ≡ answer es c n
-unfolding answer checked
-edges_passed es c n e f = rw (e, f) refl
+pub point_accepted : (es : List ℕ) (u v n : ℕ) {c : Converted} {near : Nearest} → edges_valid es ≡ true → c ≡ Ok (point u v) → admission u v ≡ Ok near → accepted es n u v near.entry ≡ answer es c n
+unfolding answer checked checked_point
+point_accepted es u v n e f h = rw (e, f, h) refl

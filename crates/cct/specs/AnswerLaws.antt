@@ -3,7 +3,7 @@ use Rattle.std.specs.Prelude.{◌≡◌, refl, Bool, true, false, cond, List, �
 use Rattle.std.proofs.Common.{ap, ◌∙◌, le_trans, mul-le-mul_left, arith, ltb-false}
 use Rattle.arith.specs.Root.{root}
 use Rattle.arith.specs.RootLaws.{root_law}
-use Rattle.reading.specs.declared.Converted.{Converted}
+use Rattle.reading.specs.Convert.{Converted}
 use Rattle.locus.specs.Stored.{first_place, last_place}
 use Rattle.locus.specs.Locus.{locus_v, distance_at, entry_distance}
 use Rattle.locus.specs.LocusLaws.{entry_distance_lem}

@@ -1,13 +1,11 @@
 -- What document 01 answers to class edges, what a reading was converted to, and the steps allowed (its "allowance").
-use Rattle.std.specs.Prelude.{cond, List, ℕ, leb, ℤ, pos, neg_ℤ}
+use Rattle.std.specs.Prelude.{cond, List, ℕ, leb, ℤ, pos, neg_ℤ, Result, Ok, Err}
 use Rattle.arith.specs.Root.{root}
 use Rattle.refusal.specs.Number.{number_of}
 use Rattle.refusal.specs.declared.Refusal.{Refusal}
 use Rattle.refusal.specs.declared.Refusal.TheVariants.{BadEdges}
-use Rattle.reading.specs.declared.Converted.{Converted}
-use Rattle.reading.specs.declared.Converted.TheVariants as converted
-use Rattle.locus.specs.declared.Admission.{Admission}
-use Rattle.locus.specs.declared.Admission.TheVariants as admitted
+use Rattle.reading.specs.Convert.{Converted}
+use Rattle.locus.specs.declared.Nearest.{Nearest}
 use Rattle.locus.specs.Locus.{locus_v, distance_at}
 use Rattle.locus.specs.Admission.{admission}
 use Rattle.search.specs.Golden.{State, after, steps_of}
@@ -21,14 +19,14 @@ pub data Checked : Type 0 where
   passed : ℕ → ℕ → ℕ → Checked
 
 -- the last checks of the point (u, v): refusals 5, 6 and 7
-abbrev pub checked_at : ℕ → ℕ → Admission → Checked
-checked_at u v (admitted.Near m d) = passed u v m
-checked_at u v (admitted.Refused r) = refused_by r
+abbrev pub checked_at : ℕ → ℕ → Result Nearest Refusal → Checked
+checked_at u v (Ok n) = passed u v n.entry
+checked_at u v (Err r) = refused_by r
 
 -- before them stands a refusal that the conversion found: 2, 3 or 4 of a reading, 9, 10 or 4 of spectral samples
 unfoldable pub checked_point : Converted → Checked
-checked_point (converted.Point u v) = checked_at u v (admission u v)
-checked_point (converted.Refused r) = refused_by r
+checked_point (Ok p) = checked_at p.u p.v (admission p.u p.v)
+checked_point (Err r) = refused_by r
 
 -- refusal 1 comes before all others
 unfoldable pub checked : List ℕ → Converted → Checked

@@ -10,7 +10,7 @@ use Rattle.std.specs.Float.Ieee.Exact.{HasValue}
 use Rattle.std.specs.Float.Ieee.Back.{round_whole}
 use Rattle.arith.specs.TestLaws.{cond_both}
 use Rattle.arith.specs.Units.{micro}
-use Rattle.reading.specs.declared.Converted.{Converted}
+use Rattle.reading.specs.Convert.{Converted}
 use Rattle.classes.specs.Classes.{kelvin_places}
 use Rattle.cct.specs.declared.Answer.{Answer}
 use Rattle.cct.specs.declared.FloatAnswer.{FloatAnswer}

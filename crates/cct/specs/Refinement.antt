@@ -1,9 +1,8 @@
 -- Demand 3: what two answers to the same edges and reading, at n₁ ≤ n₂ steps allowed, have in common.
 -- `RefinementProof.demand_3` proves it of the definition `answer`, for whatever any entry point converts its reading to.
-use Rattle.std.specs.Prelude.{◌≡◌, List, ℕ, ◌+◌, ◌-◌, ◌*◌, ◌≤◌, min}
+use Rattle.std.specs.Prelude.{◌≡◌, List, ℕ, ◌+◌, ◌-◌, ◌*◌, ◌≤◌, min, Ok}
 use Rattle.refusal.specs.declared.Refusal.{Refusal}
-use Rattle.reading.specs.declared.Converted.{Converted}
-use Rattle.reading.specs.declared.Converted.TheVariants.{Point}
+use Rattle.reading.specs.Convert.{Converted, point}
 use Rattle.locus.specs.Locus.{distance_at}
 use Rattle.locus.specs.Admission.{nearest_entry}
 use Rattle.search.specs.Golden.{fibonacci, pieces}
@@ -29,7 +28,7 @@ pub record Narrower (u v : ℕ) (a b : Answer) : Type 0 where
 -- the same refusal in both, whose number is never 0, or both accepted and the second refines the first
 pub data Refines (c : Converted) (n₁ n₂ : ℕ) (a b : Answer) : Type 0 where
   both_refused : (r : Refusal) → a ≡ refused r → b ≡ refused r → Refines c n₁ n₂ a b
-  both_accepted : (u v : ℕ) → c ≡ Point u v → Accepted u v n₁ a → Accepted u v n₂ b → Narrower u v a b → Refines c n₁ n₂ a b
+  both_accepted : (u v : ℕ) → c ≡ Ok (point u v) → Accepted u v n₁ a → Accepted u v n₂ b → Narrower u v a b → Refines c n₁ n₂ a b
 
 -- demand 3 for the edges es and a converted reading c. `FloatLaws.float_whole` carries what it says of `answer` to the whole-number part of
 -- a float answer

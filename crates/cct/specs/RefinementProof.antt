@@ -5,8 +5,7 @@ use Rattle.std.proofs.Math.Path.{refl}
 use Rattle.std.proofs.Common.{sym, ap, ◌∙◌, arith}
 use Prim.Native.Nat.{ℕ, ◌≤◌}
 use Rattle.reading.specs.declared.Reading.{Reading}
-use Rattle.reading.specs.declared.Converted.{Converted}
-use Rattle.reading.specs.Convert.{convert_reading, convert_micro}
+use Rattle.reading.specs.Convert.{Converted, convert_reading, convert_micro}
 use Rattle.spectral.specs.Samples.{convert_samples}
 use Rattle.locus.specs.Locus.{distance_at}
 use Rattle.locus.specs.Admission.{nearest_entry}

@@ -1,12 +1,11 @@
 -- Demand 2: each refusal is given exactly under its condition, when no condition that comes before it holds.
-use Rattle.std.specs.Prelude.{◌≡◌, refl, Bool, true, false, List, ℕ}
+use Rattle.std.specs.Prelude.{◌≡◌, refl, Bool, true, false, List, ℕ, Ok, Err}
 use Rattle.std.proofs.Common.{sym, ap, subst, ◌∙◌, arith}
 use Rattle.refusal.specs.Number.{number_of}
 use Rattle.refusal.specs.NumberLaws.{number_positive, number_injective}
 use Rattle.refusal.specs.declared.Refusal.{Refusal}
 use Rattle.refusal.specs.declared.Refusal.TheVariants.{BadEdges, TooFar, TooHot, TooCool}
-use Rattle.reading.specs.declared.Converted.{Converted}
-use Rattle.reading.specs.declared.Converted.TheVariants as converted
+use Rattle.reading.specs.Convert.{Converted}
 use Rattle.locus.specs.Admission.{nearest_entry, is_too_far, past, admission}
 use Rattle.classes.specs.Edges.{edges_valid}
 use Rattle.cct.specs.declared.Answer.{Answer}
@@ -44,8 +43,8 @@ decided es c = go (edges_valid es) refl c refl
   where
     go : (b : Bool) → edges_valid es ≡ b → (k : Converted) → c ≡ k → Decided es c
     go false e k f = refusal BadEdges (bad_edges e)
-    go true e (converted.Refused r) f = refusal r (not_converted r e f)
-    go true e (converted.Point u v) f = at_point es c u v (record { edges = e; point = f }) (is_too_far u v) (past u v 1 2) (past u v 24 23) refl refl refl
+    go true e (Err r) f = refusal r (not_converted r e f)
+    go true e (Ok p) f = at_point es c p.u p.v (record { edges = e; point = f }) (is_too_far p.u p.v) (past p.u p.v 1 2) (past p.u p.v 24 23) refl refl refl
 
 -- what holds of every reading that no check refuses holds where an answer is accepted
 pub accepted_clear : {A : Type 0} (es : List ℕ) (c : Converted) (n : ℕ) → (answer es c n).refusal ≡ 0 → ((u v : ℕ) → Clear es c u v → A) → A

@@ -9,7 +9,7 @@ use Rattle.cct.proofs.accepted_answer.Goals as goal
 pub duv_on-duv-requires : goal.duv_on-duv-requires
 duv_on-duv-requires c =
     let a = c.args in
-    best_on a.u a.v a.entry a.distance a.max_steps a.span c.run-found.result c.requires.0 c.requires.1 c.run-found.ensures
+    best_on a.p.u a.p.v a.max_steps a.near a.span c.run-found.result c.requires.0 c.requires.1 c.run-found.ensures
 
 pub overflow_cast-result : goal.overflow_cast-result
 unfolding found
@@ -20,4 +20,4 @@ returns c =
     let a = c.args in
     let d = c.duv_on-duv in
     let back = to_z-of_z {w = w32} {z = d.result} (record { sfits = d.type_inv }) in
-    accepted_from a.edges.now a.u a.v a.entry a.max_steps c.run-found.result _ c.class_of-class.result c.run-found.ensures (back ∙ d.ensures) c.class_of-class.ensures.class
+    accepted_from a.edges.now a.p.u a.p.v a.near.entry a.max_steps c.run-found.result _ c.class_of-class.result c.run-found.ensures (back ∙ d.ensures) c.class_of-class.ensures.class
