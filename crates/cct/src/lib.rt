@@ -123,7 +123,7 @@ fn accepted_answer(
 
 // The accepted answer to what a reading was converted to, or why there is none: refusal 1 comes first, and 5, 6 and 7 come last.
 fn try_answer(converted: Converted, edges: &[u32], max_steps: u32) -> Result<Answer, Refusal>
-    ensures { settled result ≡ answer edges.now converted max_steps }
+    ensures { settled refused result ≡ answer edges.now converted max_steps }
 {
     if !classes::edges_valid(edges) {
         return Err(Refusal::BadEdges);

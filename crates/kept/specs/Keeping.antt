@@ -1,9 +1,7 @@
 -- The record that is kept of a reading and its answer (document 02, No. 4 and No. 8). Definitions only.
-use Rattle.std.specs.Prelude.{Bool, ◌&&◌, cond, ℕ, leb, eqb}
+use Rattle.std.specs.Prelude.{Bool, ◌&&◌, cond, ℕ, leb, eqb, Option, Some, None}
 use Rattle.records.specs.declared.fields.Record.{Record}
 use Rattle.cct.specs.declared.Answer.{Answer}
-use Rattle.kept.specs.declared.Kept.{Kept}
-use Rattle.kept.specs.declared.Kept.TheVariants as is
 
 -- u, v and the answer, number for number
 abbrev pub record_of : ℕ → ℕ → Answer → Record
@@ -15,5 +13,5 @@ unfoldable pub fits_record : Answer → Bool
 fits_record a = leb a.place 65535 && leb a.low 65535 && leb a.high 65535
 
 -- what is kept: the record, or nothing of an answer that is refused or has too large a place
-unfoldable pub keep : ℕ → ℕ → Answer → Kept
-keep u v a = cond (eqb a.refusal 0 && fits_record a) (is.Kept (record_of u v a)) is.NotKept
+unfoldable pub keep : ℕ → ℕ → Answer → Option Record
+keep u v a = cond (eqb a.refusal 0 && fits_record a) (Some (record_of u v a)) None

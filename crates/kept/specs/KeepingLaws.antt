@@ -1,5 +1,5 @@
 -- Every accepted answer is kept whole, and no refused one is.
-use Rattle.std.specs.Prelude.{◌≡◌, refl, Bool, true, false, ◌&&◌, List, ℕ, zero, suc, ◌*◌, ◌≤◌, ◌<◌, leb, ℤ, pos, negsuc, nat_abs}
+use Rattle.std.specs.Prelude.{◌≡◌, refl, Bool, true, false, ◌&&◌, List, ℕ, zero, suc, ◌*◌, ◌≤◌, ◌<◌, leb, ℤ, pos, negsuc, nat_abs, Some, None}
 use Rattle.std.proofs.Common.{mul-le-mul, arith, leb-true, leb-false, le-leb, eq-eqb, ne_eqb}
 use Rattle.arith.specs.TestLaws.{and_both, both_and, cond_both}
 use Rattle.records.specs.BytesLaws.{Holds}
@@ -7,13 +7,12 @@ use Rattle.records.specs.Fields.{duv_width}
 use Rattle.records.specs.FieldsLaws.{Narrow}
 use Rattle.locus.specs.Admission.{nearest_entry, limit}
 use Rattle.classes.specs.Classes.{no_class, last_passing, class_count}
-use Rattle.reading.specs.declared.Converted.{Converted}
+use Rattle.reading.specs.Convert.{Converted}
 use Rattle.cct.specs.declared.Answer.{Answer}
 use Rattle.cct.specs.Answers.{accepted, answer}
 use Rattle.cct.specs.AnswerLaws.{answer_bounded}
 use Rattle.cct.specs.RefusalLaws.{clear_accepted, accepted_clear}
 use Rattle.kept.specs.Keeping.{record_of, fits_record, keep}
-use Rattle.kept.specs.declared.Kept.TheVariants as is
 
 -- each place of the answer is small enough to be kept
 pub record Fits (a : Answer) : Type 0 where
@@ -55,13 +54,13 @@ pub accepted_duv : (es : List ℕ) (c : Converted) (n : ℕ) → (answer es c n)
 accepted_duv es c n e = within_duv (nat_abs (answer es c n).duv) (answer_bounded es c n e).duv
 
 -- and every accepted answer is kept, number for number, with the u and v that it is given
-pub accepted_kept : (u v : ℕ) (es : List ℕ) (c : Converted) (n : ℕ) → (answer es c n).refusal ≡ 0 → keep u v (answer es c n) ≡ is.Kept (record_of u v (answer es c n))
+pub accepted_kept : (u v : ℕ) (es : List ℕ) (c : Converted) (n : ℕ) → (answer es c n).refusal ≡ 0 → keep u v (answer es c n) ≡ Some (record_of u v (answer es c n))
 unfolding keep
 accepted_kept u v es c n e =
     rw (eq-eqb (answer es c n).refusal 0 e, true_fits (answer es c n) (accepted_fits es c n e)) refl
 
 -- and nothing is kept of a refused one
-pub refused_not_kept : (u v : ℕ) (a : Answer) → (a.refusal ≡ 0 → ⊥) → keep u v a ≡ is.NotKept
+pub refused_not_kept : (u v : ℕ) (a : Answer) → (a.refusal ≡ 0 → ⊥) → keep u v a ≡ None
 unfolding keep
 refused_not_kept u v a h = rw (ne_eqb a.refusal 0 h) refl
 

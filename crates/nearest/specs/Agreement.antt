@@ -1,8 +1,7 @@
 -- What the coarse reader has in common with the search, and what it answers where both accept (document 02, No. 12).
-use Rattle.std.specs.Prelude.{◌≡◌, ℕ}
+use Rattle.std.specs.Prelude.{◌≡◌, ℕ, Ok}
 use Rattle.refusal.specs.declared.Refusal.{Refusal}
-use Rattle.reading.specs.declared.Converted.{Converted}
-use Rattle.reading.specs.declared.Converted.TheVariants as converted
+use Rattle.reading.specs.Convert.{Converted, point}
 use Rattle.table.specs.Ready.{NearestReady}
 use Rattle.cct.specs.declared.Answer.{Answer}
 use Rattle.cct.specs.Answers.{refused}
@@ -13,4 +12,4 @@ use Rattle.nearest.specs.Coarse.{refused_coarse}
 -- nearest ready place of the point that the reading was converted to
 pub data Agree (c : Converted) (a : Answer) (b : Coarse) : Type 0 where
   both_refused : (r : Refusal) → a ≡ refused r → b ≡ refused_coarse r → Agree c a b
-  both_accepted : (u v : ℕ) → c ≡ converted.Point u v → a.refusal ≡ 0 → b.refusal ≡ 0 → NearestReady u v b.place → Agree c a b
+  both_accepted : (u v : ℕ) → c ≡ Ok (point u v) → a.refusal ≡ 0 → b.refusal ≡ 0 → NearestReady u v b.place → Agree c a b

@@ -1,12 +1,10 @@
 -- The search and the coarse reader accept the same readings and refuse the rest with the same number.
-use Rattle.std.specs.Prelude.{◌≡◌, refl, true, List, ℕ}
+use Rattle.std.specs.Prelude.{◌≡◌, refl, true, List, ℕ, Result, Ok, Err}
 use Rattle.std.proofs.Common.{sym, ap, ◌∙◌}
 use Rattle.reading.specs.declared.Reading.{Reading}
-use Rattle.reading.specs.declared.Converted.{Converted}
-use Rattle.reading.specs.declared.Converted.TheVariants as converted
-use Rattle.reading.specs.Convert.{convert_reading, convert_micro}
-use Rattle.locus.specs.declared.Admission.{Admission}
-use Rattle.locus.specs.declared.Admission.TheVariants as admitted
+use Rattle.reading.specs.Convert.{Converted, convert_reading, convert_micro}
+use Rattle.refusal.specs.declared.Refusal.{Refusal}
+use Rattle.locus.specs.declared.Nearest.{Nearest}
 use Rattle.locus.specs.Admission.{admission}
 use Rattle.table.specs.ReadyLaws.{nearest_ready_lem}
 use Rattle.classes.specs.Edges.{edges_valid}
@@ -19,12 +17,12 @@ use Rattle.nearest.specs.Agreement.{Agree, both_refused, both_accepted}
 -- after the same checks
 checked_agree : (es : List ℕ) (c : Converted) (n : ℕ) → Agree c (answered es n (checked_point c)) (coarse_of (checked_point c))
 unfolding checked_point accepted
-checked_agree es (converted.Refused r) n = both_refused r refl refl
-checked_agree es (converted.Point u v) n = go (admission u v)
+checked_agree es (Err r) n = both_refused r refl refl
+checked_agree es (Ok p) n = go (admission p.u p.v)
   where
-    go : (a : Admission) → Agree (converted.Point u v) (answered es n (checked_at u v a)) (coarse_of (checked_at u v a))
-    go (admitted.Refused r) = both_refused r refl refl
-    go (admitted.Near m d) = both_accepted u v refl refl refl (nearest_ready_lem u v)
+    go : (a : Result Nearest Refusal) → Agree (Ok p) (answered es n (checked_at p.u p.v a)) (coarse_of (checked_at p.u p.v a))
+    go (Err r) = both_refused r refl refl
+    go (Ok near) = both_accepted p.u p.v refl refl refl (nearest_ready_lem p.u p.v)
 
 -- with any valid edges, and whatever the steps allowed
 pub agree : (es : List ℕ) (c : Converted) (n : ℕ) → edges_valid es ≡ true → Agree c (answer es c n) (coarse c)

@@ -1,7 +1,7 @@
 -- What the coarse reader answers to what a reading was converted to (document 02, No. 12).
 use Rattle.refusal.specs.Number.{number_of}
 use Rattle.refusal.specs.declared.Refusal.{Refusal}
-use Rattle.reading.specs.declared.Converted.{Converted}
+use Rattle.reading.specs.Convert.{Converted}
 use Rattle.table.specs.Ready.{nearest_ready}
 use Rattle.cct.specs.Answers.{Checked, refused_by, passed, checked_point}
 use Rattle.nearest.specs.declared.Coarse.{Coarse}

@@ -2,14 +2,13 @@
 #![tactic(auto)]
 
 ghost use Rattle.std.specs.Prelude.{◌≡◌};
-ghost use Rattle.reading.specs.Convert.{convert_reading, convert_micro};
-ghost use Rattle.table.specs.Ready.{ready_table};
-ghost use Rattle.cct.specs.Answers.{checked_point};
-ghost use Rattle.nearest.specs.Coarse.{refused_coarse, coarse_of, coarse};
+ghost use Rattle.nearest.specs.Coarse.{refused_coarse, coarse};
+ghost use Rattle.cct.specs.Code.Settled.{settled};
 
-use locus::Admission;
-use reading::{Converted, Reading};
+use locus::Locus;
+use reading::{Converted, Source};
 use refusal::Refusal;
+use table::ReadyTable;
 
 // The coarse answer. A refused one has its number, and zero as its place.
 #[repr(C)]
@@ -20,61 +19,40 @@ pub struct Coarse {
     pub refusal: u8,
 }
 
-fn refused_coarse(refusal: Refusal) -> Coarse
-    ensures { result ≡ refused_coarse refusal }
-{
-    Coarse {
-        place: 0,
-        refusal: refusal.number(),
+impl From<Refusal> for Coarse {
+    ghost from_gives = { λ r c. c ≡ refused_coarse r };
+
+    fn from(refusal: Refusal) -> Coarse {
+        Coarse {
+            place: 0,
+            refusal: u8::from(refusal),
+        }
     }
 }
 
-// The coarse answer to a point: refusals 5, 6 and 7, or the nearest ready place.
-fn coarse_point(table: &[u32; 3130], u: u32, v: u32) -> Coarse
-    requires { table.now ≡ ready_table }
-    ensures { result ≡ coarse (Converted.Point u v) }
+// The nearest ready place to what a reading was converted to, or why there is none: refusals 5, 6 and 7 come last.
+fn try_coarse(table: &ReadyTable, converted: Converted) -> Result<Coarse, Refusal>
+    ensures { settled refused_coarse result ≡ coarse converted }
 {
-    let us = locus::table_u();
-    let vs = locus::table_v();
-    match locus::admit(&us, &vs, u, v) {
-        Admission::Refused(refusal) => refused_coarse(refusal),
-        Admission::Near(_, distance) => Coarse {
-            place: table::nearest_ready(table, u, v, distance),
-            refusal: 0,
-        },
-    }
+    let p = converted?;
+    let near = Locus::stored().admit(p)?;
+    Ok(Coarse {
+        place: table.nearest(p, near.distance),
+        refusal: 0,
+    })
 }
 
-// The coarse answer to what a reading was converted to, for a caller that keeps the ready table.
-pub fn coarse_converted(table: &[u32; 3130], converted: Converted) -> Coarse
-    requires { table.now ≡ ready_table }
-    ensures answers { result ≡ coarse converted }
+// The coarse answer to what a source comes to, for a caller that keeps the ready table.
+pub fn coarse_with<S: Source>(table: &ReadyTable, source: S) -> Coarse
+    ensures answers { result ≡ coarse (S.comes_to source) }
     ensures unchanged { table.exit.now ≡ table.entry.now }
 {
-    match converted {
-        Converted::Refused(refusal) => refused_coarse(refusal),
-        Converted::Point(u, v) => coarse_point(table, u, v),
-    }
+    try_coarse(table, source.convert()).unwrap_or_else(Coarse::from)
 }
 
-// The coarse answer to what a reading was converted to, with a table of its own.
-fn coarse_alone(converted: Converted) -> Coarse
-    ensures { result ≡ coarse converted }
+// The coarse answer to what a source comes to, with a table of its own.
+pub fn coarse_answer<S: Source>(source: S) -> Coarse
+    ensures { result ≡ coarse (S.comes_to source) }
 {
-    let table = table::ready_table();
-    coarse_converted(&table, converted)
-}
-
-// The coarse answer to a reading of any of the four kinds.
-pub fn coarse_reading(reading: Reading) -> Coarse
-    ensures { result ≡ coarse (convert_reading reading) }
-{
-    coarse_alone(reading::convert(reading))
-}
-
-// The coarse answer to u and v in micro.
-pub fn coarse_micro(u: u32, v: u32) -> Coarse
-    ensures { result ≡ coarse (convert_micro u v) }
-{
-    coarse_alone(reading::convert_micro(u, v))
+    coarse_with(&ReadyTable::new(), source)
 }

@@ -4,6 +4,7 @@ use Rattle.refusal.specs.declared.Refusal.TheVariants.{BadEdges}
 use Rattle.locus.specs.AdmissionLaws.{admitted_near}
 use Rattle.cct.specs.Conditions.{bad_edges, not_converted}
 use Rattle.cct.specs.RefusalLaws.{condition_refused}
+use Rattle.cct.specs.Answers.{refused}
 use Rattle.cct.specs.Code.Settled.{settled}
 use Rattle.cct.proofs.Assembly.{point_refused, point_accepted}
 use Rattle.cct.proofs.try_answer.Goals as goal
@@ -17,14 +18,14 @@ pub returns-in_err-p : goal.returns-in_err-p
 returns-in_err-p c =
     let a = c.args in
     let e : c.from_residual.result ≡ Err c.in_err-p.field-0.0 = search rules in
-    ap settled e ∙ sym (condition_refused a.edges.now a.converted _ (not_converted _ (sym c.edges_valid.ensures.valid ∙ c.if-not-edges_valid.false) c.in_err-p.was) a.max_steps)
+    ap (settled refused) e ∙ sym (condition_refused a.edges.now a.converted _ (not_converted _ (sym c.edges_valid.ensures.valid ∙ c.if-not-edges_valid.false) c.in_err-p.was) a.max_steps)
 
 pub returns-in_err-near : goal.returns-in_err-near
 returns-in_err-near c =
     let a = c.args in
     let p = c.in_ok-p.p in
     let e : c.from_residual-in_err-near.result ≡ Err c.in_err-near.field-0.0 = search rules in
-    ap settled e ∙ point_refused a.edges.now p.u p.v a.max_steps (sym c.edges_valid.ensures.valid ∙ c.if-not-edges_valid.false) c.in_ok-p.was (sym c.in_err-near.ensures.answers)
+    ap (settled refused) e ∙ point_refused a.edges.now p.u p.v a.max_steps (sym c.edges_valid.ensures.valid ∙ c.if-not-edges_valid.false) c.in_ok-p.was (sym c.in_err-near.ensures.answers)
 
 pub span_about-span-requires : goal.span_about-span-requires
 span_about-span-requires c =

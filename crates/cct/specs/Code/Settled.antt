@@ -1,9 +1,7 @@
--- What an answer that may be refused comes to: itself, or the refused answer.
+-- What an answer that may be refused comes to: itself, or what the refusal is answered with.
 use Rattle.std.specs.Prelude.{Result, Ok, Err}
 use Rattle.refusal.specs.declared.Refusal.{Refusal}
-use Rattle.cct.specs.declared.Answer.{Answer}
-use Rattle.cct.specs.Answers.{refused}
 
-abbrev pub settled : Result Answer Refusal → Answer
-settled (Ok a) = a
-settled (Err r) = refused r
+abbrev pub settled : {A : Type 0} → (Refusal → A) → Result A Refusal → A
+settled f (Ok a) = a
+settled f (Err r) = f r
