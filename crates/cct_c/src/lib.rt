@@ -14,7 +14,8 @@ ghost use Rattle.cct.specs.Answers.{answer};
 ghost use Rattle.cct.specs.FloatAnswers.{float_answer};
 
 use cct::FloatAnswer;
-use reading::Reading;
+use reading::{Micro, Reading, Source};
+use spectral::Samples;
 
 // CIE 1960 u, v.
 #[unsafe(no_mangle)]
@@ -22,8 +23,7 @@ pub extern "C" fn ck_read_uv(u: f32, v: f32, edges: &[u32], max_steps: u32) -> F
     ensures answers { result ≡ float_answer (answer edges.now (convert_reading (Reading.Uv u v)) max_steps) }
     ensures unchanged { edges.exit.now ≡ edges.entry.now }
 {
-    let converted = reading::convert(Reading::Uv(u, v));
-    cct::answer_converted(converted, edges, max_steps)
+    cct::float_answer(Reading::Uv(u, v).convert(), edges, max_steps)
 }
 
 // CIE 1976 u', v'.
@@ -37,8 +37,11 @@ pub extern "C" fn ck_read_uvp(
     ensures answers { result ≡ float_answer (answer edges.now (convert_reading (Reading.UvPrime u_prime v_prime)) max_steps) }
     ensures unchanged { edges.exit.now ≡ edges.entry.now }
 {
-    let converted = reading::convert(Reading::UvPrime(u_prime, v_prime));
-    cct::answer_converted(converted, edges, max_steps)
+    cct::float_answer(
+        Reading::UvPrime(u_prime, v_prime).convert(),
+        edges,
+        max_steps,
+    )
 }
 
 // CIE 1931 x, y.
@@ -47,8 +50,7 @@ pub extern "C" fn ck_read_xy(x: f32, y: f32, edges: &[u32], max_steps: u32) -> F
     ensures answers { result ≡ float_answer (answer edges.now (convert_reading (Reading.Xy x y)) max_steps) }
     ensures unchanged { edges.exit.now ≡ edges.entry.now }
 {
-    let converted = reading::convert(Reading::Xy(x, y));
-    cct::answer_converted(converted, edges, max_steps)
+    cct::float_answer(Reading::Xy(x, y).convert(), edges, max_steps)
 }
 
 // Tristimulus values X, Y, Z.
@@ -57,8 +59,7 @@ pub extern "C" fn ck_read_xyz(x: f32, y: f32, z: f32, edges: &[u32], max_steps: 
     ensures answers { result ≡ float_answer (answer edges.now (convert_reading (Reading.Xyz x y z)) max_steps) }
     ensures unchanged { edges.exit.now ≡ edges.entry.now }
 {
-    let converted = reading::convert(Reading::Xyz(x, y, z));
-    cct::answer_converted(converted, edges, max_steps)
+    cct::float_answer(Reading::Xyz(x, y, z).convert(), edges, max_steps)
 }
 
 // CIE 1960 u and v as whole numbers in micro.
@@ -67,7 +68,7 @@ pub extern "C" fn ck_read_micro(u: u32, v: u32, edges: &[u32], max_steps: u32) -
     ensures answers { result ≡ float_answer (answer edges.now (convert_micro u v) max_steps) }
     ensures unchanged { edges.exit.now ≡ edges.entry.now }
 {
-    cct::answer_micro(u, v, edges, max_steps)
+    cct::float_answer(Micro { u, v }, edges, max_steps)
 }
 
 // Spectral samples, with the observer's tables.
@@ -83,5 +84,11 @@ pub extern "C" fn ck_read_samples(
     ensures answers { result ≡ float_answer (answer edges.now (convert_samples samples.now x_bar.now y_bar.now z_bar.now) max_steps) }
     ensures unchanged { (samples.exit.now ≡ samples.entry.now) × (x_bar.exit.now ≡ x_bar.entry.now) × (y_bar.exit.now ≡ y_bar.entry.now) × (z_bar.exit.now ≡ z_bar.entry.now) × (edges.exit.now ≡ edges.entry.now) }
 {
-    cct::answer_samples(samples, x_bar, y_bar, z_bar, edges, max_steps)
+    let given = Samples {
+        samples,
+        x_bar,
+        y_bar,
+        z_bar,
+    };
+    cct::float_answer(given, edges, max_steps)
 }
