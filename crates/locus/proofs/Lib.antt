@@ -1,3 +1,2 @@
-mod Squares
 mod Curves
 mod Admitting

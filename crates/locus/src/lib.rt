@@ -58,9 +58,9 @@ pub struct Locus {
 
 // A point whose coordinates are small enough that sums and products of them fit 64 bits.
 #[derive(Clone, Copy)]
-struct Point {
-    u: u32,
-    v: u32,
+pub struct Point {
+    pub u: u32,
+    pub v: u32,
     ghost u_small: { u ≤ far_out },
     ghost v_small: { v ≤ far_out },
 }
@@ -122,11 +122,11 @@ fn curve_through(x: u32, y: u32, z: u32, left: i64, right: i64) -> Curve
     let b = THREE_SQUARES * signed_difference(z, x);
     let c = THREE_PIECES * signed_difference(z + x, 2 * y);
     Curve {
-        a: a,
-        b: b,
-        c: c,
-        left: left,
-        right: right,
+        a,
+        b,
+        c,
+        left,
+        right,
     }
 }
 
@@ -279,10 +279,7 @@ impl Locus {
         ensures answers { result ≡ admission p.u p.v }
         ensures unchanged { self.exit.now ≡ self.entry.now }
     {
-        if FAR_OUT < p.u {
-            return Err(Refusal::TooFar);
-        }
-        if FAR_OUT < p.v {
+        if FAR_OUT < p.u || FAR_OUT < p.v {
             return Err(Refusal::TooFar);
         }
         self.admit_near(Point { u: p.u, v: p.v })
@@ -311,7 +308,8 @@ impl Locus {
         ensures unchanged { self.exit.now ≡ self.entry.now }
     {
         let entry = place / PIECE_LENGTH - 1;
-        self.span_about(entry).point_at(place)
+        let span = self.span_about(entry);
+        span.point_at(place)
     }
 }
 
@@ -332,18 +330,17 @@ impl Span {
         ensures { result ≡ locus_point place }
     {
         let t = signed_difference(place, self.mid);
-        Chromaticity {
-            u: self.u.at(t),
-            v: self.v.at(t),
-        }
+        let u = self.u.at(t);
+        let v = self.v.at(t);
+        Chromaticity { u, v }
     }
 
     // The squared distance of a reading from the locus at a place of the span.
-    pub fn distance_at(self, p: Chromaticity, place: u32) -> u64
-        requires { AboutAnEntry self × (p.u ≤ far_out) × (p.v ≤ far_out) × (self.from ≤ place) × (place ≤ self.to) }
-        ensures { result ≡ distance_at p.u p.v place }
+    pub fn distance_at(self, reading: Point, place: u32) -> u64
+        requires { AboutAnEntry self × (self.from ≤ place) × (place ≤ self.to) }
+        ensures { result ≡ distance_at reading.u reading.v place }
     {
-        let point = self.point_at(place);
-        squared_difference(p.u, point.u) + squared_difference(p.v, point.v)
+        let Chromaticity { u, v } = self.point_at(place);
+        reading.squared_distance(Point { u, v })
     }
 }

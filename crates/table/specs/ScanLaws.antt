@@ -1,5 +1,5 @@
 -- The scan of the ready table goes on as `least_of` does, and ends with the nearest ready place.
-use Rattle.std.specs.Prelude.{◌≡◌, refl, Bool, true, false, cond, ℕ, zero, suc, ◌+◌, ◌*◌, ◌-◌, ◌≤◌, ◌<◌, ltb, Ok}
+use Rattle.std.specs.Prelude.{◌≡◌, refl, Bool, true, false, cond, ℕ, zero, suc, ◌+◌, ◌*◌, ◌-◌, ◌≤◌, ◌<◌, ltb, Ok, Some}
 use Rattle.std.proofs.Common.{ap, add-one, arith, lt-ltb, le-ltb}
 use Rattle.arith.specs.Least.{least_of}
 use Rattle.arith.specs.LeastLaws.{Least, least, least_only}
@@ -8,7 +8,7 @@ use Rattle.locus.specs.LocusLaws.{entry_distance_lem}
 use Rattle.locus.specs.Admission.{near, admission}
 use Rattle.locus.specs.AdmissionLaws.{admitted_near}
 use Rattle.table.specs.Ready.{last_ready, ready_place, ready_distance}
-use Rattle.table.specs.Code.Scan.{Within, bounded, nearest_of, nearer_of}
+use Rattle.table.specs.Code.Scan.{Within, bounded, before, nearest_of, nearer_of}
 use Rattle.table.specs.declared.Nearest.{Nearest}
 
 -- what was kept stays where ready point k is as far, and gives way where it is nearer
@@ -17,7 +17,7 @@ kept_stays u v k kept h = rw (le-ltb (ready_distance u v k) kept.distance h) ref
 
 pub kept_gives_way :
     (u v k : ℕ) (kept : Nearest) {d : ℕ} → d ≡ ready_distance u v k → d < kept.distance
-    → record { next = k + 1; distance = d } ≡ nearer_of u v kept k
+    → record { number = Some k; distance = d } ≡ nearer_of u v kept k
 kept_gives_way u v k kept e h = let l = rw e at h in rw (e, lt-ltb (ready_distance u v k) kept.distance l) refl
 
 -- one ready point more
@@ -29,9 +29,9 @@ scan_next u v near k = rw (add-one k) (go (ltb (ready_distance u v k) (g (least_
     g = bounded (near + 1) (ready_distance u v)
 
     at : ℕ → Nearest
-    at m = record { next = m; distance = g m }
+    at m = record { number = before m; distance = g m }
 
-    go : (b : Bool) → cond b (record { next = suc k; distance = ready_distance u v k }) (at (least_of g k)) ≡ at (cond b (suc k) (least_of g k))
+    go : (b : Bool) → cond b (record { number = Some k; distance = ready_distance u v k }) (at (least_of g k)) ≡ at (cond b (suc k) (least_of g k))
     go true = refl
     go false = refl
 
@@ -52,8 +52,10 @@ bounded_least s f n i h below = go (least_of (bounded s f) (n + 1)) (least (boun
         })))
 
 -- after the last ready point
-pub scan_last : (u v near : ℕ) → Within u v near → (nearest_of u v near 1565).next ≡ least_of (ready_distance u v) last_ready + 1
-scan_last u v near w = bounded_least (near + 1) (ready_distance u v) last_ready w.number w.among (omega (arith, w.close))
+pub scan_last : (u v near : ℕ) → Within u v near → (nearest_of u v near 1565).number ≡ Some (least_of (ready_distance u v) last_ready)
+scan_last u v near w =
+    let m : ℕ = least_of (ready_distance u v) last_ready in
+    ap before (rw (add-one m) at (bounded_least (near + 1) (ready_distance u v) last_ready w.number w.among (omega (arith, w.close))))
 
 -- the entry that a reading was admitted by is itself a ready point
 pub admitted_within : (u v m d : ℕ) → admission u v ≡ Ok (near m d) → Within u v d

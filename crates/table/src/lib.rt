@@ -6,9 +6,10 @@ mod points;
 ghost use Rattle.std.specs.Prelude.{◌≡◌, ◌≤◌};
 ghost use Rattle.locus.specs.Code.Bounds.{far_out};
 ghost use Rattle.locus.specs.Admission.{limit};
-ghost use Rattle.table.specs.Ready.{last_ready, ready_table, nearest_ready};
+ghost use Rattle.table.specs.Ready.{last_ready, ready_place, ready_table, nearest_ready};
 ghost use Rattle.table.specs.Code.Scan.{Within, nearer_of};
 
+use locus::Point;
 use reading::Chromaticity;
 
 // The first place of the locus, which is that of ready point 0.
@@ -27,11 +28,19 @@ pub struct ReadyTable {
     ghost ready: { numbers ≡ ready_table },
 }
 
-// A ready point by one more than its number, with its squared distance from a reading; 0 stands for none.
+// The nearest of the ready points that were looked at and lie within a bound, with its squared distance; where there is none, the bound.
 #[derive(Clone, Copy)]
 struct Nearest {
-    next: usize,
+    number: Option<usize>,
     distance: u64,
+}
+
+// The place of ready point k.
+fn place_of(k: usize) -> u32
+    requires { k ≤ last_ready }
+    ensures { result ≡ ready_place k }
+{
+    FIRST_PLACE + SPACING * k as u32
 }
 
 impl ReadyTable {
@@ -45,20 +54,20 @@ impl ReadyTable {
     }
 
     // The nearer of the point kept so far and ready point k; of equals, that kept. Where u alone makes the point too far, v is not looked at.
-    fn nearer(&self, p: Chromaticity, kept: Nearest, k: usize) -> Nearest
-        requires { (p.u ≤ far_out) × (p.v ≤ far_out) × (k ≤ last_ready) }
-        ensures { result ≡ nearer_of p.u p.v kept k }
+    fn nearer(&self, reading: Point, kept: Nearest, k: usize) -> Nearest
+        requires { k ≤ last_ready }
+        ensures { result ≡ nearer_of reading.u reading.v kept k }
     {
-        let across = locus::squared_difference(p.u, self.numbers[2 * k]);
+        let across = locus::squared_difference(reading.u, self.numbers[2 * k]);
         if across >= kept.distance {
             return kept;
         }
-        let distance = across + locus::squared_difference(p.v, self.numbers[2 * k + 1]);
+        let distance = across + locus::squared_difference(reading.v, self.numbers[2 * k + 1]);
         if distance >= kept.distance {
             return kept;
         }
         Nearest {
-            next: k + 1,
+            number: Some(k),
             distance,
         }
     }
@@ -69,13 +78,14 @@ impl ReadyTable {
         ensures answers { result ≡ nearest_ready p.u p.v }
         ensures unchanged { self.exit.now ≡ self.entry.now }
     {
+        let reading = Point { u: p.u, v: p.v };
         let mut kept = Nearest {
-            next: 0,
+            number: None,
             distance: near + 1,
         };
         for k in 0..READY_POINTS {
-            kept = self.nearer(p, kept, k);
+            kept = self.nearer(reading, kept, k);
         }
-        FIRST_PLACE + SPACING * (kept.next - 1) as u32
+        place_of(kept.number.unwrap())
     }
 }

@@ -23,11 +23,13 @@ within u v near j {span} p h k = lies (distance_at u v) (begins u v near span p.
 pub begin-s-requires : goal.begin-s-requires
 begin-s-requires c = begins c.args.p.u c.args.p.v c.args.near c.args.span c.requires.0 c.requires.1
 
+pub invariant_of-reading : goal.invariant_of-reading
+invariant_of-reading c =
+    let n = (begins c.args.p.u c.args.p.v c.args.near c.args.span c.requires.0 c.requires.1).admitted in
+    record { u_small = n.u_small; v_small = n.v_small }
+
 pub step-s-requires : goal.step-s-requires
-step-s-requires c =
-    let a = c.args in
-    let n = (begins a.p.u a.p.v a.near a.span c.requires.0 c.requires.1).admitted in
-    (n.u_small, n.v_small, within a.p.u a.p.v a.near c.loop-j.j c.requires (omega (arith, c.min-steps.ensures)) c.loop-j.invariant)
+step-s-requires c = within c.args.p.u c.args.p.v c.args.near c.loop-j.j c.requires (omega (arith, c.min-steps.ensures)) c.loop-j.invariant
 
 pub loop-j-preserved : goal.loop-j-preserved
 loop-j-preserved c =
@@ -35,18 +37,8 @@ loop-j-preserved c =
     let l = c.loop-j in
     rw c.step-s.ensures (tracks_next (distance_at a.p.u a.p.v) a.near.entry l.j l.s (omega (arith, c.min-steps.ensures)) l.invariant)
 
-pub overflow_mul-result : goal.overflow_mul-result
-overflow_mul-result c =
-    let a = c.args in
-    omega (arith, within a.p.u a.p.v a.near c.loop-j.j c.requires (omega (arith, c.min-steps.ensures)) c.loop-j.invariant)
-
-pub overflow_add-result : goal.overflow_add-result
-overflow_add-result c =
-    let a = c.args in
-    omega (arith, within a.p.u a.p.v a.near c.loop-j.j c.requires (omega (arith, c.min-steps.ensures)) c.loop-j.invariant)
-
-pub overflow_add-result-2 : goal.overflow_add-result-2
-overflow_add-result-2 c =
+pub high-requires : goal.high-requires
+high-requires c =
     let a = c.args in
     omega (arith, within a.p.u a.p.v a.near c.loop-j.j c.requires (omega (arith, c.min-steps.ensures)) c.loop-j.invariant)
 
@@ -55,4 +47,4 @@ returns c =
     let a = c.args in
     let l = c.loop-j in
     let done : l.j ≡ steps_of a.max_steps = omega (arith, c.min-steps.ensures) in
-    answers (distance_at a.p.u a.p.v) a.near.entry a.max_steps l.s c.min-steps.ensures (rw done at l.invariant)
+    rw c.high.ensures (answers (distance_at a.p.u a.p.v) a.near.entry a.max_steps l.s c.min-steps.ensures (rw done at l.invariant))

@@ -4,13 +4,13 @@ use Rattle.locus.specs.Code.Pieces.{curve_at}
 use Rattle.locus.proofs.Curves.{near_read}
 use Rattle.locus.proofs.Span.point_at.Goals as goal
 
-pub at-requires : goal.at-requires
-at-requires c =
+pub at-u-requires : goal.at-u-requires
+at-u-requires c =
     let f = span_follows c.requires.0 c.requires.1 c.requires.2 in
     (f.u.fits, rw (near_read c.signed_difference-t.ensures f.near) f.near)
 
-pub at-requires-2 : goal.at-requires-2
-at-requires-2 c =
+pub at-v-requires : goal.at-v-requires
+at-v-requires c =
     let f = span_follows c.requires.0 c.requires.1 c.requires.2 in
     (f.v.fits, rw (near_read c.signed_difference-t.ensures f.near) f.near)
 
@@ -18,4 +18,4 @@ pub returns : goal.returns
 returns c =
     let f = span_follows c.requires.0 c.requires.1 c.requires.2 in
     let t = near_read c.signed_difference-t.ensures f.near in
-    λ i. record { u = (c.at.ensures ∙ ap (curve_at c.args.self.u) t ∙ f.u.gives) i; v = (c.at-2.ensures ∙ ap (curve_at c.args.self.v) t ∙ f.v.gives) i }
+    λ i. record { u = (c.at-u.ensures ∙ ap (curve_at c.args.self.u) t ∙ f.u.gives) i; v = (c.at-v.ensures ∙ ap (curve_at c.args.self.v) t ∙ f.v.gives) i }

@@ -3,4 +3,4 @@ use Rattle.table.specs.Code.Scan.{nearest_of}
 use Rattle.table.proofs.ReadyTable.nearest.Given as goal
 
 abbrev pub invariant-loop-k : goal.invariant-loop-k
-invariant-loop-k l = l.kept ≡ nearest_of l.p.u l.p.v l.near l.k
+invariant-loop-k l = l.kept ≡ nearest_of l.fn.p.u l.fn.p.v l.near l.k
