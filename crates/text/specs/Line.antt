@@ -1,8 +1,24 @@
 -- Document 01, "The text program": what a line of the input says.
-use Rattle.std.specs.Prelude.{ℕ, ◌+◌, ◌*◌, ◌-◌, List, [], ◌∷◌, map, Bool, cond, ◌&&◌, length, leb, eqb}
+use Rattle.std.specs.Prelude.{ℕ, ◌+◌, ◌*◌, ◌-◌, List, [], ◌∷◌, map, Bool, cond, ◌&&◌, length, leb, eqb, Result, Ok, Err}
 use Rattle.arith.specs.Every.{every}
-use Rattle.text.specs.declared.grammar.Line.{Line}
-use Rattle.text.specs.declared.grammar.Line.TheVariants.{Unreadable, Numbers}
+use Rattle.refusal.specs.declared.Refusal.{Refusal}
+use Rattle.refusal.specs.declared.Refusal.TheVariants.{BadLine}
+use Rattle.text.specs.declared.grammar.Request.{Request}
+
+-- what a line says: a request, or why it is refused
+abbrev pub Line : Type 0
+Line = Result Request Refusal
+
+-- refusal 8
+abbrev pub unreadable : Line
+unreadable = Err BadLine
+
+-- u and v in micro, and the most steps to take
+abbrev pub request : ℕ → ℕ → ℕ → Request
+request u v n = record { u = u; v = v; max_steps = n }
+
+abbrev pub numbers : ℕ → ℕ → ℕ → Line
+numbers u v n = Ok (request u v n)
 
 -- bytes of ASCII: those that part words and lines, the first and the last digit, and the minus sign
 abbrev pub space : ℕ
@@ -58,16 +74,16 @@ default_steps = 6
 
 -- two numbers, u and v, or three, with the steps allowed
 abbrev pub numbers_of : List ℕ → Line
-numbers_of [] = Unreadable
-numbers_of (u ∷ []) = Unreadable
-numbers_of (u ∷ v ∷ []) = Numbers u v default_steps
-numbers_of (u ∷ v ∷ n ∷ []) = Numbers u v n
-numbers_of (u ∷ v ∷ n ∷ m ∷ rest) = Unreadable
+numbers_of [] = unreadable
+numbers_of (u ∷ []) = unreadable
+numbers_of (u ∷ v ∷ []) = numbers u v default_steps
+numbers_of (u ∷ v ∷ n ∷ []) = numbers u v n
+numbers_of (u ∷ v ∷ n ∷ m ∷ rest) = unreadable
 
 -- what the words of a line say
 abbrev pub words_line : List (List ℕ) → Line
-words_line ws = cond (every is_number ws) (numbers_of (map value ws)) Unreadable
+words_line ws = cond (every is_number ws) (numbers_of (map value ws)) unreadable
 
 -- what a line says, where it has 1 to 32 bytes; any other cannot be read
 unfoldable pub line_of : List ℕ → Line
-line_of l = cond (leb 1 (length l) && leb (length l) 32) (words_line (words l)) Unreadable
+line_of l = cond (leb 1 (length l) && leb (length l) 32) (words_line (words l)) unreadable

@@ -3,8 +3,7 @@ use Rattle.std.specs.Prelude.{ℕ, suc, ◌+◌, ◌*◌, ◌≤◌, ◌<◌, �
 use Rattle.std.proofs.Common.{ap, sym, ◌∙◌, arith, le-leb, leb-true, leb-false}
 use Rattle.arith.specs.Every.{every}
 use Rattle.arith.specs.TestLaws.{and_both}
-use Rattle.text.specs.declared.grammar.Line.TheVariants.{Unreadable}
-use Rattle.text.specs.Line.{space, front, words, is_digit, is_number, value, numbers_of, words_line, line_of}
+use Rattle.text.specs.Line.{unreadable, space, front, words, is_digit, is_number, value, numbers_of, words_line, line_of}
 
 -- bytes put in front of the first piece
 abbrev pub glue : List ℕ → List (List ℕ) → List (List ℕ)
@@ -73,22 +72,22 @@ numbers_total (w ∷ ws) h =
     let p = and_both (is_number w) (every is_number ws) h in
     omega (arith, number_length w p.0, numbers_total ws p.1)
 
-over_three : (ws : List (List ℕ)) → 3 < length ws → numbers_of (map value ws) ≡ Unreadable
+over_three : (ws : List (List ℕ)) → 3 < length ws → numbers_of (map value ws) ≡ unreadable
 over_three [] h = absurd (omega arith)
 over_three (u ∷ []) h = absurd (omega arith)
 over_three (u ∷ v ∷ []) h = absurd (omega arith)
 over_three (u ∷ v ∷ n ∷ []) h = absurd (omega arith)
 over_three (u ∷ v ∷ n ∷ m ∷ ws) h = refl
 
-long_words : (ws : List (List ℕ)) → 24 < total ws → words_line ws ≡ Unreadable
+long_words : (ws : List (List ℕ)) → 24 < total ws → words_line ws ≡ unreadable
 long_words ws h = by_test (every is_number ws) refl
   where
-    by_test : (t : Bool) → every is_number ws ≡ t → cond t (numbers_of (map value ws)) Unreadable ≡ Unreadable
+    by_test : (t : Bool) → every is_number ws ≡ t → cond t (numbers_of (map value ws)) unreadable ≡ unreadable
     by_test true e = over_three ws (omega (arith, numbers_total ws e))
     by_test false e = refl
 
 -- the longest line that can be read: three numbers of 7 digits, and two spaces
-pub longest : (l : List ℕ) → 23 < length l → words_line (words l) ≡ Unreadable
+pub longest : (l : List ℕ) → 23 < length l → words_line (words l) ≡ unreadable
 longest l h = long_words (words l) (omega (arith, words_total l))
 
 -- so the length of a line needs no test of its own
@@ -98,7 +97,7 @@ length_implied [] = refl
 length_implied (x ∷ l) = by_length (leb (length (x ∷ l)) 32) refl
   where
     by_length : (t : Bool) → leb (length (x ∷ l)) 32 ≡ t
-        → cond (leb 1 (length (x ∷ l)) && leb (length (x ∷ l)) 32) (words_line (words (x ∷ l))) Unreadable ≡ words_line (words (x ∷ l))
+        → cond (leb 1 (length (x ∷ l)) && leb (length (x ∷ l)) 32) (words_line (words (x ∷ l))) unreadable ≡ words_line (words (x ∷ l))
     by_length true e = simp (le-leb 1 (length (x ∷ l)) (omega arith), e)
     by_length false e =
         simp (le-leb 1 (length (x ∷ l)) (omega arith), e) (sym (longest (x ∷ l) (omega (arith, leb-false (length (x ∷ l)) 32 e))))

@@ -1,14 +1,11 @@
 -- Document 01, "The text program": the line that answers a line of the input.
-use Rattle.std.specs.Prelude.{ℕ, List, [], ◌∷◌, ◌++◌, cond, eqb}
+use Rattle.std.specs.Prelude.{ℕ, List, [], ◌∷◌, ◌++◌, cond, eqb, Ok, Err}
 use Rattle.refusal.specs.Number.{number_of}
-use Rattle.refusal.specs.declared.Refusal.TheVariants.{BadLine}
 use Rattle.reading.specs.Convert.{convert_micro}
 use Rattle.classes.specs.Classes.{no_class}
 use Rattle.cct.specs.declared.Answer.{Answer}
 use Rattle.cct.specs.Answers.{answer}
-use Rattle.text.specs.declared.grammar.Line.{Line}
-use Rattle.text.specs.declared.grammar.Line.TheVariants.{Unreadable, Numbers}
-use Rattle.text.specs.Line.{space, newline, minus_sign, line_of}
+use Rattle.text.specs.Line.{Line, space, newline, minus_sign, line_of}
 use Rattle.text.specs.Decimal.{decimal, signed}
 
 -- words with one space between
@@ -36,8 +33,8 @@ program_edges = 1600 ∷ 2500 ∷ 3500 ∷ 5000 ∷ 20001 ∷ []
 
 -- the answer to what a line says: refusal 8 comes before all others
 unfoldable pub reply_to : Line → List ℕ
-reply_to Unreadable = decimal (number_of BadLine)
-reply_to (Numbers u v n) = answer_text (answer program_edges (convert_micro u v) n)
+reply_to (Err refusal) = decimal (number_of refusal)
+reply_to (Ok r) = answer_text (answer program_edges (convert_micro r.u r.v) r.max_steps)
 
 -- with its newline
 abbrev pub reply_line : Line → List ℕ

@@ -1,16 +1,13 @@
 -- Laws of the printed line: the parts in which it is printed, and its length.
-use Rattle.std.specs.Prelude.{ℕ, ◌≤◌, ◌≡◌, List, ◌∷◌, ◌++◌, length, ℤ, eqb}
+use Rattle.std.specs.Prelude.{ℕ, ◌≤◌, ◌≡◌, List, ◌∷◌, ◌++◌, length, ℤ, eqb, Ok, Err}
 use Rattle.std.proofs.Common.{ap, append_assoc, arith, length-append}
 use Rattle.arith.specs.TestLaws.{cond_both}
 use Rattle.refusal.specs.Number.{number_of}
-use Rattle.refusal.specs.declared.Refusal.TheVariants.{BadLine}
 use Rattle.reading.specs.Convert.{convert_micro}
 use Rattle.classes.specs.Classes.{no_class}
 use Rattle.cct.specs.declared.Answer.{Answer}
 use Rattle.cct.specs.Answers.{answer}
-use Rattle.text.specs.declared.grammar.Line.{Line}
-use Rattle.text.specs.declared.grammar.Line.TheVariants.{Unreadable, Numbers}
-use Rattle.text.specs.Line.{space}
+use Rattle.text.specs.Line.{Line, space}
 use Rattle.text.specs.Decimal.{signed}
 use Rattle.text.specs.DecimalLaws.{digits_short, signed_short}
 use Rattle.text.specs.Code.Halves.{field_text, places_text, rest_text}
@@ -44,5 +41,5 @@ answer_short a =
 
 pub reply_short : (l : Line) → length (reply_to l) ≤ 68
 unfolding reply_to
-reply_short Unreadable = omega (arith, digits_short 10 (number_of BadLine))
-reply_short (Numbers u v n) = answer_short (answer program_edges (convert_micro u v) n)
+reply_short (Err refusal) = omega (arith, digits_short 10 (number_of refusal))
+reply_short (Ok r) = answer_short (answer program_edges (convert_micro r.u r.v) r.max_steps)

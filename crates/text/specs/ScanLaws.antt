@@ -1,15 +1,15 @@
 -- A scan of a line says what the line says: by induction on the bytes left, for each of the three numbers of a line.
-use Rattle.std.specs.Prelude.{ℕ, suc, zero, ◌+◌, ◌*◌, ◌-◌, ◌≤◌, ◌<◌, ◌^◌, ◌≡◌, refl, List, [], ◌∷◌, ◌++◌, map, Bool, true, false, cond, ◌&&◌, length, leb, ltb, eqb}
+use Rattle.std.specs.Prelude.{ℕ, suc, zero, ◌+◌, ◌*◌, ◌-◌, ◌≤◌, ◌<◌, ◌^◌, ◌≡◌, refl, List, [], ◌∷◌, ◌++◌, map, Bool, true, false, cond, ◌&&◌, length, leb, ltb, eqb, Option, Some, None, ok_or}
 use Rattle.std.proofs.Common.{ap, sym, ◌∙◌, arith, pow-suc, add-one, length-append, le-ltb, le-leb, ne_eqb, ltb-true, ltb-false, leb-true, eqb-true}
 use Rattle.std.proofs.Math.Bool.{and-true, and-false}
 use Rattle.std.proofs.Math.Nat.{pow-le-pow_right}
 use Rattle.std.proofs.lemmas.Bool.{lt-leb, eqb-false}
 use Rattle.arith.specs.Every.{every}
 use Rattle.arith.specs.TestLaws.{and_both, both_and, first_fails, second_fails}
-use Rattle.text.specs.declared.grammar.Line.{Line}
-use Rattle.text.specs.declared.grammar.Line.TheVariants.{Unreadable}
+use Rattle.refusal.specs.declared.Refusal.TheVariants.{BadLine}
+use Rattle.text.specs.declared.grammar.Request.{Request}
 use Rattle.text.specs.declared.grammar.Scan.{Scan}
-use Rattle.text.specs.Line.{space, digit_zero, digit_nine, front, words, is_digit, is_number, value_from, value, numbers_of, words_line, line_of}
+use Rattle.text.specs.Line.{Line, unreadable, request, default_steps, space, digit_zero, digit_nine, front, words, is_digit, is_number, value_from, value, numbers_of, words_line, line_of}
 use Rattle.text.specs.LineLaws.{glue, glue_piece, glue_snoc, some_words, length_implied}
 use Rattle.text.specs.Code.Scan.{empty_scan, bad_scan, scan_space, scan_byte, scan_line, scanned}
 
@@ -20,19 +20,16 @@ scan_snoc s (y ∷ l) x = scan_snoc (scan_byte s y) l x
 
 -- a scan, by its numbers
 abbrev mk : ℕ → ℕ → ℕ → ℕ → ℕ → Scan
-mk a b c f k = record { earlier = a; previous = b; current = c; spaces = f; digits = k }
+mk a b c f k = record { numbers = Some (record { earlier = a; previous = b; current = c; spaces = f; digits = k }) }
 
 cond_same : {A : Type 0} (t : Bool) (x : A) → cond t x x ≡ x
 cond_same true x = refl
 cond_same false x = refl
 
 -- no byte mends a bad line
-bad_byte : (x : ℕ) → scan_byte bad_scan x ≡ bad_scan
-bad_byte x = simp cond_same
-
-bad_run : (l : List ℕ) → scan_line (scanned bad_scan l) ≡ Unreadable
+bad_run : (l : List ℕ) → scan_line (scanned bad_scan l) ≡ unreadable
 bad_run [] = refl
-bad_run (x ∷ l) = ap (λ (s : Scan). scan_line (scanned s l)) (bad_byte x) ∙ bad_run l
+bad_run (x ∷ l) = bad_run l
 
 -- digits
 digit_of : (x : ℕ) → ltb x digit_zero ≡ false → ltb digit_nine x ≡ false → is_digit x ≡ true
@@ -114,9 +111,8 @@ glue_front (y ∷ w) x ps = ap (front y) (glue_front w x ps)
 
 -- What holds of a scan in each of the three numbers: K says what the words from this number on say.
 record Field (a b f : ℕ) (K : List (List ℕ) → Line) : Type 0 where
-  last : f ≤ 2
   at_end : (w : List ℕ) → Good w → K (w ∷ []) ≡ scan_line (mk a b (value w) f (length w))
-  at_stop : (w : List ℕ) (ws : List (List ℕ)) → is_number w ≡ false → K (w ∷ ws) ≡ Unreadable
+  at_stop : (w : List ℕ) (ws : List (List ℕ)) → is_number w ≡ false → K (w ∷ ws) ≡ unreadable
   at_space : (w l : List ℕ) → Good w → K (w ∷ words l) ≡ scan_line (scanned (scan_space (mk a b (value w) f (length w))) l)
 
 module _ {a b f : ℕ} {K : List (List ℕ) → Line} (F : Field a b f K) where
@@ -136,11 +132,11 @@ module _ {a b f : ℕ} {K : List (List ℕ) → Line} (F : Field a b f K) where
 
   on_room : (w l : List ℕ) (x : ℕ) → Runs l → Good w → eqb x space ≡ false → ltb x digit_zero ≡ false → ltb digit_nine x ≡ false → (t : Bool) → ltb 6 (length w) ≡ t → Byte w x l
   on_room w l x ih g h lo hi true k =
-      let e : scan_byte (at w) x ≡ bad_scan = simp (h, lo, hi, le-ltb 2 f F.last, k) in
+      let e : scan_byte (at w) x ≡ bad_scan = simp (h, lo, hi, k) in
       to_bad w l x e (λ p. number_long w p x (ltb-true 6 (length w) k))
   on_room w l x ih g h lo hi false k =
       let r : length w ≤ 6 = ltb-false 6 (length w) k in
-      let e : scan_byte (at w) x ≡ mk a b (10 * value w + (x - digit_zero)) f (length w + 1) = simp (h, lo, hi, le-ltb 2 f F.last, k, le-ltb 999999 (value w) (six_small w g r)) in
+      let e : scan_byte (at w) x ≡ mk a b (10 * value w + (x - digit_zero)) f (length w + 1) = simp (h, lo, hi, k, le-ltb 999999 (value w) (six_small w g r)) in
       let v = sym (value_snoc 0 w x) in
       let n : length w + 1 ≡ length (w ++ (x ∷ [])) = sym (length-append w (x ∷ [])) in
       ap (λ (s : Scan). scan_line (scanned s l)) (e ∙ ap (λ (c : ℕ). mk a b c f (length w + 1)) v ∙ ap (λ (k : ℕ). mk a b (value (w ++ (x ∷ []))) f k) n)
@@ -166,38 +162,37 @@ module _ {a b f : ℕ} {K : List (List ℕ) → Line} (F : Field a b f K) where
   runs (x ∷ l) w g = on_byte w l x (runs l) g (eqb x space) refl
 
 -- words of which one is no number
-stop : (ws : List (List ℕ)) → every is_number ws ≡ false → words_line ws ≡ Unreadable
-stop ws e = ap (λ (t : Bool). cond t (numbers_of (map value ws)) Unreadable) e
+stop : (ws : List (List ℕ)) → every is_number ws ≡ false → words_line ws ≡ unreadable
+stop ws e = ap (λ (t : Bool). cond t (numbers_of (map value ws)) unreadable) e
 
 -- words that are numbers up to the last
-ended : (w : List ℕ) (ws : List (List ℕ)) → Good w → every is_number ws ≡ is_number w && true
-    → words_line ws ≡ cond (eqb (length w) 0) Unreadable (numbers_of (map value ws))
-ended w ws g e = ap (λ (t : Bool). cond t (numbers_of (map value ws)) Unreadable) (e ∙ ap (λ (t : Bool). t && true) (good_number w g)) ∙ flip (length w)
+ended : (w : List ℕ) (ws : List (List ℕ)) (r : Option Request) → numbers_of (map value ws) ≡ ok_or r BadLine → Good w → every is_number ws ≡ is_number w && true
+    → words_line ws ≡ ok_or (cond (eqb (length w) 0) None r) BadLine
+ended w ws r m g e = ap (λ (t : Bool). cond t (numbers_of (map value ws)) unreadable) (e ∙ ap (λ (t : Bool). t && true) (good_number w g)) ∙ flip (length w)
   where
-    flip : (n : ℕ) → cond (leb 1 n && true) (numbers_of (map value ws)) Unreadable ≡ cond (eqb n 0) Unreadable (numbers_of (map value ws))
+    flip : (n : ℕ) → cond (leb 1 n && true) (numbers_of (map value ws)) unreadable ≡ ok_or (cond (eqb n 0) None r) BadLine
     flip zero = refl
-    flip (suc n) = simp (le-leb 1 (suc n) (omega arith), ne_eqb (suc n) 0 (λ e. omega arith))
+    flip (suc n) = simp (le-leb 1 (suc n) (omega arith), ne_eqb (suc n) 0 (λ e. omega arith)) m
 
 -- four words or more
-crowded : (u v w : List ℕ) (ws : List (List ℕ)) → 0 < length ws → words_line (u ∷ v ∷ w ∷ ws) ≡ Unreadable
+crowded : (u v w : List ℕ) (ws : List (List ℕ)) → 0 < length ws → words_line (u ∷ v ∷ w ∷ ws) ≡ unreadable
 crowded u v w [] h = absurd (omega arith)
-crowded u v w (x ∷ ws) h = cond_same (every is_number (u ∷ v ∷ w ∷ x ∷ ws)) Unreadable
+crowded u v w (x ∷ ws) h = cond_same (every is_number (u ∷ v ∷ w ∷ x ∷ ws)) unreadable
 
 third_field : (u v : List ℕ) → is_number u ≡ true → is_number v ≡ true → Field (value u) (value v) 2 (λ (ws : List (List ℕ)). words_line (u ∷ v ∷ ws))
 third_field u v p q =
     record {
-      last = omega arith;
-      at_end = λ w g. ended w (u ∷ v ∷ w ∷ []) g (simp (p, q));
+      at_end = λ w g. ended w (u ∷ v ∷ w ∷ []) (Some (request (value u) (value v) (value w))) refl g (simp (p, q));
       at_stop = λ w ws e. stop (u ∷ v ∷ w ∷ ws) (second_fails (is_number u) (second_fails (is_number v) (first_fails (every is_number ws) e)));
       at_space = λ w l g. crowded u v w (words l) (some_words l) ∙ sym (bad_run l);
     }
 
 -- from a space on
 next : {a b f : ℕ} (w : List ℕ) (K : List (List ℕ) → Line) (l : List ℕ) → Good w → (is_number w ≡ true → Field a b f K)
-    → (is_number w ≡ false → K (words l) ≡ Unreadable) → K (words l) ≡ scan_line (scanned (cond (eqb (length w) 0) bad_scan (mk a b 0 f 0)) l)
+    → (is_number w ≡ false → K (words l) ≡ unreadable) → K (words l) ≡ scan_line (scanned (record { numbers = cond (eqb (length w) 0) None (mk a b 0 f 0).numbers }) l)
 next {a} {b} {f} w K l g F stops = by_length (eqb (length w) 0) refl
   where
-    by_length : (t : Bool) → eqb (length w) 0 ≡ t → K (words l) ≡ scan_line (scanned (cond t bad_scan (mk a b 0 f 0)) l)
+    by_length : (t : Bool) → eqb (length w) 0 ≡ t → K (words l) ≡ scan_line (scanned (record { numbers = cond t None (mk a b 0 f 0).numbers }) l)
     by_length true e = stops (good_number w g ∙ lt-leb 1 (length w) (omega (arith, eqb-true (length w) 0 e))) ∙ sym (bad_run l)
     by_length false e =
         let ne : length w ≡ 0 → ⊥ = eqb-false (length w) 0 e in
@@ -206,23 +201,21 @@ next {a} {b} {f} w K l g F stops = by_length (eqb (length w) 0) refl
 second_field : (u : List ℕ) → is_number u ≡ true → Field 0 (value u) 1 (λ (ws : List (List ℕ)). words_line (u ∷ ws))
 second_field u p =
     record {
-      last = omega arith;
-      at_end = λ w g. ended w (u ∷ w ∷ []) g (simp p);
+      at_end = λ w g. ended w (u ∷ w ∷ []) (Some (request (value u) (value w) default_steps)) refl g (simp p);
       at_stop = at_stop;
       at_space = λ w l g. next w (λ (ws : List (List ℕ)). words_line (u ∷ w ∷ ws)) l g (λ q. third_field u w p q) (at_stop w (words l));
     }
   where
-    at_stop : (w : List ℕ) (ws : List (List ℕ)) → is_number w ≡ false → words_line (u ∷ w ∷ ws) ≡ Unreadable
+    at_stop : (w : List ℕ) (ws : List (List ℕ)) → is_number w ≡ false → words_line (u ∷ w ∷ ws) ≡ unreadable
     at_stop w ws e = stop (u ∷ w ∷ ws) (second_fails (is_number u) (first_fails (every is_number ws) e))
 
-first_stop : (w : List ℕ) (ws : List (List ℕ)) → is_number w ≡ false → words_line (w ∷ ws) ≡ Unreadable
+first_stop : (w : List ℕ) (ws : List (List ℕ)) → is_number w ≡ false → words_line (w ∷ ws) ≡ unreadable
 first_stop w ws e = stop (w ∷ ws) (first_fails (every is_number ws) e)
 
 first_field : Field 0 0 0 words_line
 first_field =
     record {
-      last = omega arith;
-      at_end = λ w g. ended w (w ∷ []) g refl ∙ cond_same (eqb (length w) 0) Unreadable ∙ sym (cond_same (eqb (length w) 0) Unreadable);
+      at_end = λ w g. ended w (w ∷ []) None refl g refl;
       at_stop = first_stop;
       at_space = λ w l g. next w (λ (ws : List (List ℕ)). words_line (w ∷ ws)) l g (λ q. second_field w q) (first_stop w (words l));
     }

@@ -1,15 +1,15 @@
 -- THE THEOREM of the text program: cut the input into blocks in any way, and the output is the replies to its lines in order.
-use Rattle.std.specs.Prelude.{ℕ, ◌+◌, ◌-◌, ◌≡◌, refl, Bool, true, false, not, cond, ltb, eqb}
+use Rattle.std.specs.Prelude.{ℕ, ◌+◌, ◌-◌, ◌≡◌, refl, Bool, true, false, not, cond, ltb, eqb, Option, Some, None}
 use Rattle.std.proofs.Common.{ap, sym, ◌∙◌, arith, ne_eqb}
 use mathlib.Core.List.{List, [], ◌∷◌, ◌++◌, append_assoc, append-nil, flatten}
 use Rattle.std.proofs.lemmas.Bool.{not-true}
 use Rattle.arith.specs.Every.{every}
 use Rattle.arith.specs.TestLaws.{and_both, cond_both, first_fails, second_fails}
-use Rattle.text.specs.declared.grammar.Line.{Line}
+use Rattle.text.specs.declared.grammar.Numbers.{Numbers}
 use Rattle.text.specs.declared.grammar.Scan.{Scan}
-use Rattle.text.specs.Line.{space, newline, digit_zero, digit_nine, front}
+use Rattle.text.specs.Line.{Line, space, newline, digit_zero, digit_nine, front}
 use Rattle.text.specs.LineLaws.{glue, glue_piece, glue_snoc}
-use Rattle.text.specs.Code.Scan.{empty_scan, scan_space, scan_digit, scan_byte, is_empty, scan_line, scanned}
+use Rattle.text.specs.Code.Scan.{after_space, after_digit, after_byte, step_of, no_byte, empty_scan, scan_byte, is_empty, scan_line, scanned}
 use Rattle.text.specs.ScanLaws.{scan_snoc, scan_line_lem}
 use Rattle.text.specs.Print.{reply_line, answer_line}
 use Rattle.text.specs.Stream.{lines, replies, output_of}
@@ -30,27 +30,37 @@ one_block s (b ∷ bs) =
 Begun : Scan → Type 0
 Begun s = is_empty s ≡ false
 
-begun_space : (s : Scan) → Begun (scan_space s)
-unfolding Begun
-begun_space s =
-    cond_both Begun (ltb 1 s.spaces) refl
-    (cond_both Begun (eqb s.digits 0) refl
-    (first_fails (eqb 0 0) (ne_eqb (s.spaces + 1) 0 (λ e. omega arith))))
+Going : Option Numbers → Type 0
+Going n = no_byte n ≡ false
 
-begun_digit : (s : Scan) (d : ℕ) → Begun (scan_digit s d)
-unfolding Begun
-begun_digit s d =
-    cond_both Begun (ltb 2 s.spaces) refl
-    (cond_both Begun (ltb 6 s.digits) refl
-    (cond_both Begun (ltb 999999 s.current) refl
-    (second_fails (eqb s.spaces 0) (ne_eqb (s.digits + 1) 0 (λ e. omega arith)))))
+going_space : (n : Numbers) → Going (after_space n)
+unfolding Going
+going_space n =
+    cond_both Going (ltb 1 n.spaces) refl
+    (cond_both Going (eqb n.digits 0) refl
+    (first_fails (eqb 0 0) (ne_eqb (n.spaces + 1) 0 (λ e. omega arith))))
+
+going_digit : (n : Numbers) (d : ℕ) → Going (after_digit n d)
+unfolding Going
+going_digit n d =
+    cond_both Going (ltb 6 n.digits) refl
+    (cond_both Going (ltb 999999 n.current) refl
+    (second_fails (eqb n.spaces 0) (ne_eqb (n.digits + 1) 0 (λ e. omega arith))))
+
+going_byte : (n : Numbers) (x : ℕ) → Going (after_byte n x)
+unfolding Going
+going_byte n x =
+    cond_both Going (eqb x space) (going_space n)
+    (cond_both Going (ltb x digit_zero) refl
+    (cond_both Going (ltb digit_nine x) refl (going_digit n (x - digit_zero))))
 
 begun_byte : (s : Scan) (x : ℕ) → Begun (scan_byte s x)
-unfolding Begun
-begun_byte s x =
-    cond_both Begun (eqb x space) (begun_space s)
-    (cond_both Begun (ltb x digit_zero) refl
-    (cond_both Begun (ltb digit_nine x) refl (begun_digit s (x - digit_zero))))
+unfolding Begun Going
+begun_byte s x = by_numbers s.numbers
+  where
+    by_numbers : (n : Option Numbers) → no_byte (step_of (λ (m : Numbers). after_byte m x) n) ≡ false
+    by_numbers None = refl
+    by_numbers (Some n) = going_byte n x
 
 begun : (s : Scan) (x : ℕ) (w : List ℕ) → Begun (scanned s (x ∷ w))
 begun s x [] = begun_byte s x

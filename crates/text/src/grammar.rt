@@ -1,14 +1,15 @@
 // What a line of the input says, read a byte at a time.
 ghost use Rattle.std.specs.Prelude.{◌≡◌, ◌≤◌};
-ghost use Rattle.text.specs.Code.Scan.{empty_scan, bad_scan, scan_space, scan_digit, scan_byte, is_empty, scan_line};
+ghost use Rattle.text.specs.Code.Scan.{no_numbers, after_space, after_digit, after_byte, asked, empty_scan, scan_byte, is_empty, scan_line};
 
-// What a line says.
-#[derive(Clone, Copy)]
-pub(crate) enum Line {
-    // Refusal 8.
-    Unreadable,
-    // u and v in micro, and the most steps to take.
-    Numbers(u32, u32, u32),
+use refusal::Refusal;
+
+// What a line asks for: the answer to u and v in micro, after so many steps at the most.
+#[derive(Clone, Copy, PartialEq, Eq, Debug)]
+pub(crate) struct Request {
+    pub(crate) u: u32,
+    pub(crate) v: u32,
+    pub(crate) max_steps: u32,
 }
 
 // The most steps to take where a line has two numbers.
@@ -23,20 +24,19 @@ pub(crate) const DIGIT_ZERO: u8 = b'0';
 
 const DIGIT_NINE: u8 = b'9';
 
-// A line as far as it has been read: the number being read, with how many digits are read, and the two before it.
+// The numbers of a line: how many are before the one being read, the two last of those, and that one with how many digits are read.
 #[derive(Clone, Copy)]
-pub struct Scan {
+struct Numbers {
     earlier: u32,
     previous: u32,
     current: u32,
-    // 0, 1 or 2; or 3 where the line cannot be read.
     spaces: u8,
     digits: u8,
 }
 
-impl Scan {
-    pub fn new() -> Self
-        ensures { result ≡ empty_scan }
+impl Numbers {
+    fn new() -> Self
+        ensures { result ≡ no_numbers }
     {
         Self {
             earlier: 0,
@@ -47,102 +47,105 @@ impl Scan {
         }
     }
 
-    fn bad() -> Self
-        ensures { result ≡ bad_scan }
+    fn space(self) -> Option<Self>
+        ensures { result ≡ after_space self }
     {
-        Self {
-            earlier: 0,
-            previous: 0,
-            current: 0,
-            spaces: 3,
-            digits: 0,
+        if 1 < self.spaces || self.digits == 0 {
+            return None;
         }
-    }
-
-    fn space(self) -> Self
-        ensures { result ≡ scan_space self }
-    {
-        let spaces = self.spaces;
-        let digits = self.digits;
-        if 1 < spaces {
-            return Scan::bad();
-        }
-        if digits == 0 {
-            return Scan::bad();
-        }
-        Self {
+        Some(Self {
             earlier: self.previous,
             previous: self.current,
             current: 0,
-            spaces: spaces + 1,
+            spaces: self.spaces + 1,
             digits: 0,
-        }
+        })
     }
 
     // The last test only shows that the sum fits: fewer than 7 digits are below a million.
-    fn digit(self, d: u8) -> Self
+    fn digit(self, d: u8) -> Option<Self>
         requires { d ≤ 9 }
-        ensures { result ≡ scan_digit self d }
+        ensures { result ≡ after_digit self d }
     {
-        let current = self.current;
-        let digits = self.digits;
-        if 2 < self.spaces {
-            return Scan::bad();
+        if 6 < self.digits || 999999 < self.current {
+            return None;
         }
-        if 6 < digits {
-            return Scan::bad();
+        Some(Self {
+            current: 10 * self.current + d as u32,
+            digits: self.digits + 1,
+            ..self
+        })
+    }
+
+    fn byte(self, x: u8) -> Option<Self>
+        ensures { result ≡ after_byte self x }
+    {
+        match x {
+            SPACE => self.space(),
+            DIGIT_ZERO..=DIGIT_NINE => self.digit(x - DIGIT_ZERO),
+            _ => None,
         }
-        if 999999 < current {
-            return Scan::bad();
+    }
+
+    // What the line asks for if it ends here.
+    fn request(self) -> Option<Request>
+        ensures { result ≡ asked self }
+    {
+        if self.digits == 0 {
+            return None;
         }
+        match self.spaces {
+            1 => Some(Request {
+                u: self.previous,
+                v: self.current,
+                max_steps: DEFAULT_STEPS,
+            }),
+            2 => Some(Request {
+                u: self.earlier,
+                v: self.previous,
+                max_steps: self.current,
+            }),
+            _ => None,
+        }
+    }
+}
+
+// A line as far as it has been read: its numbers, or none where it cannot be read, whatever follows.
+#[derive(Clone, Copy)]
+pub struct Scan {
+    numbers: Option<Numbers>,
+}
+
+impl Scan {
+    pub fn new() -> Self
+        ensures { result ≡ empty_scan }
+    {
         Self {
-            earlier: self.earlier,
-            previous: self.previous,
-            current: 10 * current + d as u32,
-            spaces: self.spaces,
-            digits: digits + 1,
+            numbers: Some(Numbers::new()),
         }
     }
 
     pub(crate) fn byte(self, x: u8) -> Self
         ensures { result ≡ scan_byte self x }
     {
-        if x == SPACE {
-            return self.space();
+        Self {
+            numbers: self.numbers.and_then(|n| n.byte(x)),
         }
-        if x < DIGIT_ZERO {
-            return Scan::bad();
-        }
-        if DIGIT_NINE < x {
-            return Scan::bad();
-        }
-        self.digit(x - DIGIT_ZERO)
     }
 
     // Whether no byte has been read.
     pub(crate) fn is_empty(self) -> bool
         ensures { result ≡ is_empty self }
     {
-        let spaces = self.spaces;
-        let digits = self.digits;
-        if spaces == 0 { digits == 0 } else { false }
+        self.numbers.is_some_and(|n| n.spaces == 0 && n.digits == 0)
     }
 
-    // What the line says if it ends here.
-    pub(crate) fn line(self) -> Line
+    // What the line says if it ends here, or refusal 8.
+    pub(crate) fn line(self) -> Result<Request, Refusal>
         ensures { result ≡ scan_line self }
     {
-        let spaces = self.spaces;
-        let digits = self.digits;
-        if digits == 0 {
-            return Line::Unreadable;
-        }
-        if spaces == 1 {
-            return Line::Numbers(self.previous, self.current, DEFAULT_STEPS);
-        }
-        if spaces == 2 {
-            return Line::Numbers(self.earlier, self.previous, self.current);
-        }
-        Line::Unreadable
+        self.numbers
+            .and_then(|n| n.request())
+            .ok_or(Refusal::BadLine)
     }
 }

@@ -7,7 +7,7 @@ ghost use Rattle.text.specs.Decimal.{digits_of, decimal, signed};
 ghost use Rattle.text.specs.Print.{program_edges, class_text, answer_text, reply_to, reply_line};
 ghost use Rattle.text.specs.Code.Halves.{field_text, places_text, rest_text};
 
-use crate::grammar::{DIGIT_ZERO, Line, NEWLINE, SPACE};
+use crate::grammar::{DIGIT_ZERO, NEWLINE, Request, SPACE};
 use cct::Answer;
 use refusal::Refusal;
 
@@ -114,33 +114,27 @@ fn put_answer(answer: Answer, out: &mut [u8], at: usize) -> usize
     put_number(refusal as u32, out, at)
 }
 
-// The answer to u and v in micro at the program's class edges.
-fn answer_of(u: u32, v: u32, max_steps: u32) -> Answer
-    ensures { result ≡ answer program_edges (convert_micro u v) max_steps }
+// The answer to a request at the program's class edges.
+fn answer_of(asked: Request) -> Answer
+    ensures { result ≡ answer program_edges (convert_micro asked.u asked.v) asked.max_steps }
 {
     let edges: [u32; 5] = [1600, 2500, 3500, 5000, 20001];
-    cct::whole_answer_micro(u, v, &edges, max_steps)
+    cct::whole_answer_micro(asked.u, asked.v, &edges, asked.max_steps)
 }
 
 // The answer to what a line says.
-fn put_reply(line: Line, out: &mut [u8], at: usize) -> usize
+fn put_reply(line: Result<Request, Refusal>, out: &mut [u8], at: usize) -> usize
     requires { at + 68 ≤ length out.old }
     ensures { Wrote at out.old out.new result (reply_to line) }
 {
     match line {
-        Line::Unreadable => {
-            let number = Refusal::BadLine.number();
-            put_number(number as u32, out, at)
-        }
-        Line::Numbers(u, v, max_steps) => {
-            let answer = answer_of(u, v, max_steps);
-            put_answer(answer, out, at)
-        }
+        Ok(asked) => put_answer(answer_of(asked), out, at),
+        Err(refusal) => put_number(refusal.number() as u32, out, at),
     }
 }
 
 // The answer with its newline.
-pub(crate) fn put_line(line: Line, out: &mut [u8], at: usize) -> usize
+pub(crate) fn put_line(line: Result<Request, Refusal>, out: &mut [u8], at: usize) -> usize
     requires { at + 69 ≤ length out.old }
     ensures { Wrote at out.old out.new result (reply_line line) }
 {

@@ -1,39 +1,63 @@
 -- A line read a byte at a time, in numbers alone; specs/ScanLaws.antt proves that it says what specs/Line.antt says.
-use Rattle.std.specs.Prelude.{ℕ, ◌+◌, ◌*◌, ◌-◌, List, [], ◌∷◌, Bool, cond, ◌&&◌, ltb, eqb}
-use Rattle.text.specs.declared.grammar.Line.{Line}
-use Rattle.text.specs.declared.grammar.Line.TheVariants.{Unreadable, Numbers}
+use Rattle.std.specs.Prelude.{ℕ, ◌+◌, ◌*◌, ◌-◌, List, [], ◌∷◌, Bool, false, cond, ◌&&◌, ltb, eqb, Option, Some, None, ok_or}
+use Rattle.refusal.specs.declared.Refusal.TheVariants.{BadLine}
+use Rattle.text.specs.declared.grammar.Request.{Request}
+use Rattle.text.specs.declared.grammar.Numbers.{Numbers}
 use Rattle.text.specs.declared.grammar.Scan.{Scan}
-use Rattle.text.specs.Line.{space, digit_zero, digit_nine, default_steps}
+use Rattle.text.specs.Line.{Line, space, digit_zero, digit_nine, default_steps, request}
 
 -- before the first byte
+abbrev pub no_numbers : Numbers
+no_numbers = record { earlier = 0; previous = 0; current = 0; spaces = 0; digits = 0 }
+
+-- a space ends a number, and a third number is the last
+abbrev pub after_space : Numbers → Option Numbers
+after_space n =
+    cond (ltb 1 n.spaces) None
+    (cond (eqb n.digits 0) None
+    (Some (record { earlier = n.previous; previous = n.current; current = 0; spaces = n.spaces + 1; digits = 0 })))
+
+-- one digit more, of 7 at most
+abbrev pub after_digit : Numbers → ℕ → Option Numbers
+after_digit n d =
+    cond (ltb 6 n.digits) None
+    (cond (ltb 999999 n.current) None
+    (Some (record { earlier = n.earlier; previous = n.previous; current = 10 * n.current + d; spaces = n.spaces; digits = n.digits + 1 })))
+
+abbrev pub after_byte : Numbers → ℕ → Option Numbers
+after_byte n x =
+    cond (eqb x space) (after_space n)
+    (cond (ltb x digit_zero) None
+    (cond (ltb digit_nine x) None
+    (after_digit n (x - digit_zero))))
+
+-- what the numbers ask for if the line ends here
+abbrev pub asked : Numbers → Option Request
+asked n =
+    cond (eqb n.digits 0) None
+    (cond (eqb n.spaces 1) (Some (request n.previous n.current default_steps))
+    (cond (eqb n.spaces 2) (Some (request n.earlier n.previous n.current)) None))
+
+-- a step on the numbers of a line; nothing mends one that cannot be read
+abbrev pub step_of : {A : Type 0} → (Numbers → Option A) → Option Numbers → Option A
+step_of f None = None
+step_of f (Some n) = f n
+
 abbrev pub empty_scan : Scan
-empty_scan = record { earlier = 0; previous = 0; current = 0; spaces = 0; digits = 0 }
+empty_scan = record { numbers = Some no_numbers }
 
 -- a line that cannot be read, whatever follows
 abbrev pub bad_scan : Scan
-bad_scan = record { earlier = 0; previous = 0; current = 0; spaces = 3; digits = 0 }
+bad_scan = record { numbers = None }
 
--- a space ends a number, and a third number is the last
 abbrev pub scan_space : Scan → Scan
-scan_space s =
-    cond (ltb 1 s.spaces) bad_scan
-    (cond (eqb s.digits 0) bad_scan
-    (record { earlier = s.previous; previous = s.current; current = 0; spaces = s.spaces + 1; digits = 0 }))
+scan_space s = record { numbers = step_of after_space s.numbers }
 
--- one digit more, of 7 at most
 abbrev pub scan_digit : Scan → ℕ → Scan
-scan_digit s d =
-    cond (ltb 2 s.spaces) bad_scan
-    (cond (ltb 6 s.digits) bad_scan
-    (cond (ltb 999999 s.current) bad_scan
-    (record { earlier = s.earlier; previous = s.previous; current = 10 * s.current + d; spaces = s.spaces; digits = s.digits + 1 })))
+scan_digit s d = record { numbers = step_of (λ (n : Numbers). after_digit n d) s.numbers }
 
 abbrev pub scan_byte : Scan → ℕ → Scan
-scan_byte s x =
-    cond (eqb x space) (scan_space s)
-    (cond (ltb x digit_zero) bad_scan
-    (cond (ltb digit_nine x) bad_scan
-    (scan_digit s (x - digit_zero))))
+scan_byte s x = record { numbers = step_of (λ (n : Numbers). after_byte n x) s.numbers }
 
 -- after the bytes of a list
 abbrev pub scanned : Scan → List ℕ → Scan
@@ -41,12 +65,13 @@ scanned s [] = s
 scanned s (x ∷ l) = scanned (scan_byte s x) l
 
 -- whether no byte has been read
+abbrev pub no_byte : Option Numbers → Bool
+no_byte None = false
+no_byte (Some n) = eqb n.spaces 0 && eqb n.digits 0
+
 abbrev pub is_empty : Scan → Bool
-is_empty s = eqb s.spaces 0 && eqb s.digits 0
+is_empty s = no_byte s.numbers
 
 -- what the line says if it ends here
 abbrev pub scan_line : Scan → Line
-scan_line s =
-    cond (eqb s.digits 0) Unreadable
-    (cond (eqb s.spaces 1) (Numbers s.previous s.current default_steps)
-    (cond (eqb s.spaces 2) (Numbers s.earlier s.previous s.current) Unreadable))
+scan_line s = ok_or (step_of asked s.numbers) BadLine
