@@ -1,118 +1,17 @@
-// The line that answers a line of the input, appended to a buffer.
-ghost use Rattle.std.specs.Prelude.{◌≡◌, [], ◌∷◌, length, ◌+◌, ◌≤◌};
+// The line that answers a line of the input, appended to the output.
+ghost use Rattle.std.specs.Prelude.{◌≡◌, [], ◌∷◌, length, ◌-◌, ◌≤◌};
 ghost use Rattle.reading.specs.Convert.{convert_micro};
 ghost use Rattle.cct.specs.Answers.{answer};
-ghost use Rattle.text.specs.Wrote.{Wrote};
 ghost use Rattle.text.specs.Decimal.{digits_of, decimal, signed};
 ghost use Rattle.text.specs.Print.{program_edges, class_text, answer_text, reply_to, reply_line};
 ghost use Rattle.text.specs.Code.Halves.{field_text, places_text, rest_text};
+ghost use Rattle.text.specs.Code.Put.{Room, Put};
 
 use crate::grammar::{DIGIT_ZERO, NEWLINE, Request, SPACE};
 use cct::Answer;
 use refusal::Refusal;
 
 const MINUS_SIGN: u8 = b'-';
-
-// One byte.
-fn put_byte(out: &mut [u8], at: usize, b: u8) -> usize
-    requires { at + 1 ≤ length out.old }
-    ensures { Wrote at out.old out.new result (b ∷ []) }
-{
-    out[at] = b;
-    at + 1
-}
-
-// n in decimal, in at most k digits.
-fn put_digits(n: u32, k: usize, out: &mut [u8], at: usize) -> usize
-    requires { at + k ≤ length out.old }
-    ensures { Wrote at out.old out.new result (digits_of k n) }
-{
-    if k == 0 {
-        return at;
-    }
-    if n < 10 {
-        return put_byte(out, at, DIGIT_ZERO + n as u8);
-    }
-    let next = put_digits(n / 10, k - 1, out, at);
-    put_byte(out, next, DIGIT_ZERO + (n % 10) as u8)
-}
-
-// n in decimal.
-fn put_number(n: u32, out: &mut [u8], at: usize) -> usize
-    requires { at + 10 ≤ length out.old }
-    ensures { Wrote at out.old out.new result (decimal n) }
-{
-    put_digits(n, 10, out, at)
-}
-
-// z in decimal, with a minus sign where it is below zero.
-fn put_signed(z: i32, out: &mut [u8], at: usize) -> usize
-    requires { at + 11 ≤ length out.old }
-    ensures { Wrote at out.old out.new result (signed z) }
-{
-    let n = arith::magnitude(z);
-    if z < 0 {
-        let next = put_byte(out, at, MINUS_SIGN);
-        return put_number(n, out, next);
-    }
-    put_number(n, out, at)
-}
-
-// A space, and n in decimal.
-fn put_field(n: u32, out: &mut [u8], at: usize) -> usize
-    requires { at + 11 ≤ length out.old }
-    ensures { Wrote at out.old out.new result (field_text n) }
-{
-    let next = put_byte(out, at, SPACE);
-    put_number(n, out, next)
-}
-
-// The class, or a minus sign for none.
-fn put_class(class: u8, out: &mut [u8], at: usize) -> usize
-    requires { at + 10 ≤ length out.old }
-    ensures { Wrote at out.old out.new result (class_text class) }
-{
-    if class == classes::NO_CLASS {
-        return put_byte(out, at, MINUS_SIGN);
-    }
-    put_number(class as u32, out, at)
-}
-
-// The first half of an accepted answer: 0, the place and the bracket.
-fn put_places(place: u32, low: u32, high: u32, out: &mut [u8], at: usize) -> usize
-    requires { at + 34 ≤ length out.old }
-    ensures { Wrote at out.old out.new result (places_text place low high) }
-{
-    let a = put_byte(out, at, DIGIT_ZERO);
-    let b = put_field(place, out, a);
-    let c = put_field(low, out, b);
-    put_field(high, out, c)
-}
-
-// The second half: Duv, the steps and the class.
-fn put_rest(duv: i32, steps: u8, class: u8, out: &mut [u8], at: usize) -> usize
-    requires { at + 34 ≤ length out.old }
-    ensures { Wrote at out.old out.new result (rest_text duv steps class) }
-{
-    let a = put_byte(out, at, SPACE);
-    let b = put_signed(duv, out, a);
-    let c = put_field(steps as u32, out, b);
-    let d = put_byte(out, c, SPACE);
-    put_class(class, out, d)
-}
-
-// An answer.
-fn put_answer(answer: Answer, out: &mut [u8], at: usize) -> usize
-    requires { at + 68 ≤ length out.old }
-    ensures { Wrote at out.old out.new result (answer_text answer) }
-{
-    let refusal = answer.refusal;
-    if refusal == 0 {
-        let next = put_places(answer.place, answer.low, answer.high, out, at);
-        return put_rest(answer.duv, answer.steps, answer.class, out, next);
-    }
-    put_number(refusal as u32, out, at)
-}
 
 // The answer to a request at the program's class edges.
 fn answer_of(asked: Request) -> Answer
@@ -122,22 +21,152 @@ fn answer_of(asked: Request) -> Answer
     cct::whole_answer_micro(asked.u, asked.v, &edges, asked.max_steps)
 }
 
-// The answer to what a line says.
-fn put_reply(line: Result<Request, Refusal>, out: &mut [u8], at: usize) -> usize
-    requires { at + 68 ≤ length out.old }
-    ensures { Wrote at out.old out.new result (reply_to line) }
-{
-    match line {
-        Ok(asked) => put_answer(answer_of(asked), out, at),
-        Err(refusal) => put_number(refusal.number() as u32, out, at),
-    }
+// A buffer, and where the output in it ends.
+#[derive(Drop)]
+pub(crate) struct Output<'a> {
+    bytes: &'a mut [u8],
+    end: usize,
 }
 
-// The answer with its newline.
-pub(crate) fn put_line(line: Result<Request, Refusal>, out: &mut [u8], at: usize) -> usize
-    requires { at + 69 ≤ length out.old }
-    ensures { Wrote at out.old out.new result (reply_line line) }
-{
-    let next = put_reply(line, out, at);
-    put_byte(out, next, NEWLINE)
+impl<'a> Output<'a> {
+    pub(crate) fn new(bytes: &'a mut [u8]) -> Self
+        ensures same { result.bytes.ghost_name ≡ bytes.entry.ghost_name }
+        ensures bytes { result.bytes.now ≡ bytes.old }
+        ensures end { result.end ≡ 0 }
+    {
+        Self { bytes, end: 0 }
+    }
+
+    // How many bytes are written.
+    pub(crate) fn written(&self) -> usize
+        ensures { result ≡ self.now.end }
+    {
+        self.end
+    }
+
+    // How many bytes there is room for.
+    pub(crate) fn room(&self) -> usize
+        requires { Room self.now 0 }
+        ensures { result ≡ length self.now.bytes.now - self.now.end }
+    {
+        self.bytes.len() - self.end
+    }
+
+    // One byte.
+    fn byte(&mut self, b: u8)
+        requires { Room self.old 1 }
+        ensures { Put self.old self.new (b ∷ []) }
+    {
+        self.bytes[self.end] = b;
+        self.end += 1;
+    }
+
+    // n in decimal, in at most k digits.
+    fn digits(&mut self, n: u32, k: usize)
+        requires { Room self.old k }
+        ensures { Put self.old self.new (digits_of k n) }
+    {
+        if k == 0 {
+            return;
+        }
+        if n < 10 {
+            return self.byte(DIGIT_ZERO + n as u8);
+        }
+        self.digits(n / 10, k - 1);
+        self.byte(DIGIT_ZERO + (n % 10) as u8);
+    }
+
+    // n in decimal.
+    fn number(&mut self, n: u32)
+        requires { Room self.old 10 }
+        ensures { Put self.old self.new (decimal n) }
+    {
+        self.digits(n, 10);
+    }
+
+    // z in decimal, with a minus sign where it is below zero.
+    fn signed(&mut self, z: i32)
+        requires { Room self.old 11 }
+        ensures { Put self.old self.new (signed z) }
+    {
+        if z < 0 {
+            self.byte(MINUS_SIGN);
+        }
+        self.number(z.unsigned_abs());
+    }
+
+    // A space, and n in decimal.
+    fn field(&mut self, n: u32)
+        requires { Room self.old 11 }
+        ensures { Put self.old self.new (field_text n) }
+    {
+        self.byte(SPACE);
+        self.number(n);
+    }
+
+    // The class, or a minus sign for none.
+    fn class(&mut self, class: u8)
+        requires { Room self.old 10 }
+        ensures { Put self.old self.new (class_text class) }
+    {
+        if class == classes::NO_CLASS {
+            return self.byte(MINUS_SIGN);
+        }
+        self.number(class as u32);
+    }
+
+    // The first half of an accepted answer: 0, the place and the bracket.
+    fn places(&mut self, place: u32, low: u32, high: u32)
+        requires { Room self.old 34 }
+        ensures { Put self.old self.new (places_text place low high) }
+    {
+        self.byte(DIGIT_ZERO);
+        self.field(place);
+        self.field(low);
+        self.field(high);
+    }
+
+    // The second half: Duv, the steps and the class.
+    fn rest(&mut self, duv: i32, steps: u8, class: u8)
+        requires { Room self.old 34 }
+        ensures { Put self.old self.new (rest_text duv steps class) }
+    {
+        self.byte(SPACE);
+        self.signed(duv);
+        self.field(steps as u32);
+        self.byte(SPACE);
+        self.class(class);
+    }
+
+    // An answer.
+    fn answer(&mut self, answer: Answer)
+        requires { Room self.old 68 }
+        ensures { Put self.old self.new (answer_text answer) }
+    {
+        if answer.refusal == 0 {
+            self.places(answer.place, answer.low, answer.high);
+            return self.rest(answer.duv, answer.steps, answer.class);
+        }
+        self.number(answer.refusal as u32);
+    }
+
+    // The answer to what a line says.
+    fn reply(&mut self, line: Result<Request, Refusal>)
+        requires { Room self.old 68 }
+        ensures { Put self.old self.new (reply_to line) }
+    {
+        match line {
+            Ok(asked) => self.answer(answer_of(asked)),
+            Err(refusal) => self.number(refusal.number() as u32),
+        }
+    }
+
+    // The answer with its newline.
+    pub(crate) fn line(&mut self, line: Result<Request, Refusal>)
+        requires { Room self.old 69 }
+        ensures { Put self.old self.new (reply_line line) }
+    {
+        self.reply(line);
+        self.byte(NEWLINE);
+    }
 }

@@ -1,40 +1,26 @@
 // Blocks of input turned into blocks of output.
-ghost use Rattle.std.specs.Prelude.{◌≡◌, length, ◌+◌, ◌≤◌};
+ghost use Rattle.std.specs.Prelude.{◌≡◌};
 ghost use Rattle.text.specs.Wrote.{Wrote};
 ghost use Rattle.text.specs.Block.{closes, line_room, Blocked};
+ghost use Rattle.text.specs.Code.Put.{Room};
 ghost use Rattle.text.specs.Code.Taken.{Taken};
 
 use crate::grammar::{NEWLINE, Scan};
-use crate::print;
+use crate::print::Output;
 
 // Room for any answer with its newline.
 pub const LINE_ROOM: usize = 80;
 
-#[derive(Clone, Copy)]
-struct Next {
-    scan: Scan,
-    written: usize,
-}
-
-// One byte of the input.
-fn take_byte(scan: Scan, x: u8, out: &mut [u8], at: usize) -> Next
-    requires { at + line_room ≤ length out.old }
-    ensures { Taken scan x at out.old out.new result }
+// One byte of the input; answers the line so far after it.
+fn take_byte(scan: Scan, x: u8, output: &mut Output) -> Scan
+    requires { Room output.old line_room }
+    ensures { Taken scan x output.old output.new result }
 {
     if x == NEWLINE {
-        let line = scan.line();
-        let end = print::put_line(line, out, at);
-        let empty = Scan::new();
-        return Next {
-            scan: empty,
-            written: end,
-        };
+        output.line(scan.line());
+        return Scan::new();
     }
-    let next = scan.byte(x);
-    Next {
-        scan: next,
-        written: at,
-    }
+    scan.byte(x)
 }
 
 // What a block of input came to: the line so far, the bytes read and the bytes written.
@@ -50,27 +36,22 @@ pub fn block(scan: Scan, input: &[u8], out: &mut [u8]) -> Done
     ensures result { Blocked scan input.now out.old out.new result }
     ensures unchanged { input.exit.now ≡ input.entry.now }
 {
-    let mut s = scan;
-    let mut i: usize = 0;
-    let mut w: usize = 0;
-    while i < input.len() {
-        if out.len() - w < LINE_ROOM {
+    let mut output = Output::new(out);
+    let mut line = scan;
+    for (i, x) in input.iter().enumerate() {
+        if output.room() < LINE_ROOM {
             return Done {
-                scan: s,
+                scan: line,
                 read: i,
-                written: w,
+                written: output.written(),
             };
         }
-        let x = input[i];
-        let next = take_byte(s, x, out, w);
-        s = next.scan;
-        w = next.written;
-        i += 1;
+        line = take_byte(line, *x, &mut output);
     }
     Done {
-        scan: s,
-        read: i,
-        written: w,
+        scan: line,
+        read: input.len(),
+        written: output.written(),
     }
 }
 
@@ -78,9 +59,9 @@ pub fn block(scan: Scan, input: &[u8], out: &mut [u8]) -> Done
 pub fn finish(scan: Scan, out: &mut [u8; LINE_ROOM]) -> usize
     ensures { Wrote 0 out.old out.new result (closes scan) }
 {
-    if scan.is_empty() {
-        return 0;
+    let mut output = Output::new(out);
+    if !scan.is_empty() {
+        output.line(scan.line());
     }
-    let line = scan.line();
-    print::put_line(line, out, 0)
+    output.written()
 }

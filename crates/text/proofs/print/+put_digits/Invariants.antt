@@ -1,5 +1,0 @@
--- The most digits that are still to be written.
-use Rattle.text.proofs.print.+put_digits.Given as goal
-
-abbrev pub decreases-put_digits : goal.decreases-put_digits
-decreases-put_digits l = l.k
