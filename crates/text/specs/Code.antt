@@ -2,5 +2,4 @@
 -- tie both to the rules.
 pub mod Scan
 pub mod Put
-pub mod Taken
 pub mod Halves

@@ -1,14 +1,16 @@
 // The line that answers a line of the input, appended to the output.
-ghost use Rattle.std.specs.Prelude.{◌≡◌, [], ◌∷◌, length, ◌-◌, ◌≤◌};
+ghost use Rattle.std.specs.Prelude.{◌≡◌, [], ◌∷◌, length, ◌+◌, ◌≤◌};
 ghost use Rattle.reading.specs.Convert.{convert_micro};
 ghost use Rattle.cct.specs.Answers.{answer};
-ghost use Rattle.text.specs.Decimal.{digits_of, decimal, signed};
+ghost use Rattle.text.specs.Wrote.{Wrote};
+ghost use Rattle.text.specs.Decimal.{decimal, signed};
 ghost use Rattle.text.specs.Print.{program_edges, class_text, answer_text, reply_to, reply_line};
 ghost use Rattle.text.specs.Code.Halves.{field_text, places_text, rest_text};
 ghost use Rattle.text.specs.Code.Put.{Room, Put};
 
 use crate::grammar::{DIGIT_ZERO, NEWLINE, Request, SPACE};
 use cct::Answer;
+use itoa::Buffer;
 use refusal::Refusal;
 
 const MINUS_SIGN: u8 = b'-';
@@ -23,35 +25,12 @@ fn answer_of(asked: Request) -> Answer
 
 // A buffer, and where the output in it ends.
 #[derive(Drop)]
-pub(crate) struct Output<'a> {
+struct Output<'a> {
     bytes: &'a mut [u8],
     end: usize,
 }
 
 impl<'a> Output<'a> {
-    pub(crate) fn new(bytes: &'a mut [u8]) -> Self
-        ensures same { result.bytes.ghost_name ≡ bytes.entry.ghost_name }
-        ensures bytes { result.bytes.now ≡ bytes.old }
-        ensures end { result.end ≡ 0 }
-    {
-        Self { bytes, end: 0 }
-    }
-
-    // How many bytes are written.
-    pub(crate) fn written(&self) -> usize
-        ensures { result ≡ self.now.end }
-    {
-        self.end
-    }
-
-    // How many bytes there is room for.
-    pub(crate) fn room(&self) -> usize
-        requires { Room self.now 0 }
-        ensures { result ≡ length self.now.bytes.now - self.now.end }
-    {
-        self.bytes.len() - self.end
-    }
-
     // One byte.
     fn byte(&mut self, b: u8)
         requires { Room self.old 1 }
@@ -61,19 +40,14 @@ impl<'a> Output<'a> {
         self.end += 1;
     }
 
-    // n in decimal, in at most k digits.
-    fn digits(&mut self, n: u32, k: usize)
-        requires { Room self.old k }
-        ensures { Put self.old self.new (digits_of k n) }
+    // Some bytes.
+    fn text(&mut self, text: &[u8])
+        requires { Room self.old (length text.now) }
+        ensures { Put self.old self.new text.now }
     {
-        if k == 0 {
-            return;
-        }
-        if n < 10 {
-            return self.byte(DIGIT_ZERO + n as u8);
-        }
-        self.digits(n / 10, k - 1);
-        self.byte(DIGIT_ZERO + (n % 10) as u8);
+        let end = self.end + text.len();
+        self.bytes[self.end..end].copy_from_slice(text);
+        self.end = end;
     }
 
     // n in decimal.
@@ -81,7 +55,7 @@ impl<'a> Output<'a> {
         requires { Room self.old 10 }
         ensures { Put self.old self.new (decimal n) }
     {
-        self.digits(n, 10);
+        self.text(Buffer::new().format(n).as_bytes());
     }
 
     // z in decimal, with a minus sign where it is below zero.
@@ -89,10 +63,7 @@ impl<'a> Output<'a> {
         requires { Room self.old 11 }
         ensures { Put self.old self.new (signed z) }
     {
-        if z < 0 {
-            self.byte(MINUS_SIGN);
-        }
-        self.number(z.unsigned_abs());
+        self.text(Buffer::new().format(z).as_bytes());
     }
 
     // A space, and n in decimal.
@@ -162,11 +133,21 @@ impl<'a> Output<'a> {
     }
 
     // The answer with its newline.
-    pub(crate) fn line(&mut self, line: Result<Request, Refusal>)
+    fn line(&mut self, line: Result<Request, Refusal>)
         requires { Room self.old 69 }
         ensures { Put self.old self.new (reply_line line) }
     {
         self.reply(line);
         self.byte(NEWLINE);
     }
+}
+
+// Puts the answer to what a line says, with its newline, at a place of a buffer; answers where it ends.
+pub(crate) fn put_line(line: Result<Request, Refusal>, bytes: &mut [u8], at: usize) -> usize
+    requires { at + 69 ≤ length bytes.old }
+    ensures { Wrote at bytes.old bytes.new result (reply_line line) }
+{
+    let mut output = Output { bytes, end: at };
+    output.line(line);
+    output.end
 }

@@ -1,17 +1,8 @@
--- The minus sign and the number are two appends in a row; which of the two texts it is goes by the test of the sign.
-use Rattle.std.proofs.Common.{◌∷◌, []}
-use Rattle.text.proofs.Put.{put_then, put_as}
-use Rattle.text.proofs.Signed.{prints_neg, prints_pos}
-use Rattle.text.specs.Code.Put.{Put}
-use Rattle.text.specs.Line.{minus_sign}
+-- The library's text of a number is ours.
+use Rattle.std.proofs.Common.{◌∙◌, sym}
+use Rattle.text.proofs.Decimal.{signed_printed}
+use Rattle.text.proofs.Put.{put_as}
 use Rattle.text.proofs.print.Output.signed.Goals as goal
-use Rattle.text.proofs.print.Output.signed.Goals.{then-z-lt0, else-z-lt0}
 
 pub returns : goal.returns
-returns c =
-    let n = c.unsigned_abs.result in
-    let abs = c.unsigned_abs.ensures.value in
-    elim c.if-z-lt0.branch [
-      then-z-lt0 w ↦ put_as (prints_neg c.ranges.z w.if-z-lt0.true n abs) (put_then (rw (← w.self-is) at w.byte.ensures) c.number.ensures)
-    | else-z-lt0 w ↦ put_as (prints_pos c.ranges.z w.if-z-lt0.false n abs) (rw w.self-is at c.number.ensures)
-    ]
+returns c = put_as (sym (c.as_bytes.ensures.value ∙ c.format.ensures.text ∙ signed_printed c.args.z c.ranges.z)) c.text.ensures

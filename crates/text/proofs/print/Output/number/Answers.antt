@@ -1,0 +1,8 @@
+-- The library's text of a number is ours.
+use Rattle.std.proofs.Common.{◌∙◌, sym}
+use Rattle.text.proofs.Decimal.{decimal_printed}
+use Rattle.text.proofs.Put.{put_as}
+use Rattle.text.proofs.print.Output.number.Goals as goal
+
+pub returns : goal.returns
+returns c = put_as (sym (c.as_bytes.ensures.value ∙ c.format.ensures.text ∙ decimal_printed c.args.n c.ranges.n)) c.text.ensures
