@@ -2,17 +2,15 @@
 -- in and bytes out. Its third and fourth line look between entries, so their Duv are those of document 02, No. 3; its sixth is accepted since
 -- No. 8, to which the two lines after it belong; the last is that of No. 10. One theorem says that the definitions give what is expected, by
 -- computation.
-use Rattle.std.specs.Prelude.{◌≡◌, refl, false, List, [], ◌∷◌, ◌++◌, map, ℕ, pos, negsuc, Float}
+use Rattle.std.specs.Prelude.{◌≡◌, refl, false, List, [], ◌∷◌, ◌++◌, map, ℕ, pos, negsuc, Float, Ok}
 use Prim.Native.Char.{code}
 use Prim.Native.String.{String, [] as []ˢ, ◌∷◌ as ◌∷ˢ◌}
 use Rattle.std.specs.Float.{fin}
 use Rattle.arith.specs.Root.{root_in}
 use Rattle.arith.specs.Least.{least_of}
 use Rattle.reading.specs.declared.Reading.TheVariants.{UvPrime, Xy, Xyz}
-use Rattle.reading.specs.declared.Converted.{Converted}
-use Rattle.reading.specs.declared.Converted.TheVariants.{Point}
 use Rattle.reading.specs.Whole.{coordinate, tristimulus, in_range, to_whole}
-use Rattle.reading.specs.Convert.{of_coordinates, of_tristimulus, convert_reading}
+use Rattle.reading.specs.Convert.{Converted, point as at, of_coordinates, of_tristimulus, convert_reading}
 use Rattle.locus.specs.Stored.{stored_u, stored_v, table_u, table_v, entry_in}
 use Rattle.locus.specs.Locus.{between, locus_at, squared_distance, distance_at, entry_distance}
 use Rattle.locus.specs.Admission.{admission}
@@ -61,9 +59,9 @@ unfoldable pub cases : List Case
 cases =
     (whole (to_whole coordinate (power 6)) gives whole 7813)
     ∷ (whole (to_whole tristimulus (power 5)) gives whole 1563)
-    ∷ (point (convert_reading (Xyz hundred hundred hundred)) gives point (Point 210526 315789))
-    ∷ (point (convert_reading (Xy (power 1) (power 1))) gives point (Point 181818 272727))
-    ∷ (point (convert_reading (UvPrime (power 1) (power 0))) gives point (Point 250000 333333))
+    ∷ (point (convert_reading (Xyz hundred hundred hundred)) gives point (Ok (at 210526 315789)))
+    ∷ (point (convert_reading (Xy (power 1) (power 1))) gives point (Ok (at 181818 272727)))
+    ∷ (point (convert_reading (UvPrime (power 1) (power 0))) gives point (Ok (at 250000 333333)))
     ∷ (line "255910 349510 0" gives prints "0 36176 33592 38760 0 0 1")
     ∷ (line "219300 327100 0" gives prints "0 23256 20672 25840 -2347 0 -")
     ∷ (line "219300 327100 2" gives prints "0 23112 21892 23866 -2331 2 2")

@@ -11,16 +11,23 @@ ghost use Rattle.text.specs.Code.Put.{Room, Put};
 use crate::grammar::{DIGIT_ZERO, NEWLINE, Request, SPACE};
 use cct::Answer;
 use itoa::Buffer;
+use reading::Micro;
 use refusal::Refusal;
 
 const MINUS_SIGN: u8 = b'-';
+
+// The program's class edges.
+const EDGES: [u32; 5] = [1600, 2500, 3500, 5000, 20001];
 
 // The answer to a request at the program's class edges.
 fn answer_of(asked: Request) -> Answer
     ensures { result ≡ answer program_edges (convert_micro asked.u asked.v) asked.max_steps }
 {
-    let edges: [u32; 5] = [1600, 2500, 3500, 5000, 20001];
-    cct::whole_answer_micro(asked.u, asked.v, &edges, asked.max_steps)
+    let reading = Micro {
+        u: asked.u,
+        v: asked.v,
+    };
+    cct::whole_answer(reading, &EDGES, asked.max_steps)
 }
 
 // A buffer, and where the output in it ends.
@@ -128,7 +135,7 @@ impl<'a> Output<'a> {
     {
         match line {
             Ok(asked) => self.answer(answer_of(asked)),
-            Err(refusal) => self.number(refusal.number() as u32),
+            Err(refusal) => self.number(u8::from(refusal) as u32),
         }
     }
 
