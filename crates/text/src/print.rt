@@ -66,6 +66,7 @@ impl<'a> Output<'a> {
     }
 
     // z in decimal, with a minus sign where it is below zero.
+    #[tactic(auto, using(crate::proofs::Decimal::signed_printed))]
     fn signed(&mut self, z: i32)
         requires { Room self.old 11 }
         ensures { Put self.old self.new (signed z) }
@@ -129,6 +130,7 @@ impl<'a> Output<'a> {
     }
 
     // The answer to what a line says.
+    #[tactic(auto, unfolding(crate::specs::Print::reply_to))]
     fn reply(&mut self, line: Result<Request, Refusal>)
         requires { Room self.old 68 }
         ensures { Put self.old self.new (reply_to line) }
@@ -140,6 +142,7 @@ impl<'a> Output<'a> {
     }
 
     // The answer with its newline.
+    #[tactic(auto, using(crate::specs::PrintLaws::reply_short))]
     fn line(&mut self, line: Result<Request, Refusal>)
         requires { Room self.old 69 }
         ensures { Put self.old self.new (reply_line line) }

@@ -1,14 +1,14 @@
 -- The two halves are two appends in a row; which text it is goes by the test of the refusal.
-use Rattle.std.proofs.Common.{◌++◌, ap, sym, ◌∙◌, eq-eqb, ne_eqb, ℤ, rules, SFits, w32}
+use Rattle.std.proofs.Common.{◌++◌, ap, sym, ◌∙◌, eq-eqb, ne_eqb, ℤ, rules, SFits, w32, arith}
 use Rattle.arith.specs.SignedLaws.{back}
 use Rattle.text.specs.Code.Halves.{places_text, rest_text}
 use Rattle.text.specs.PrintLaws.{places_short, accepted_halves}
-use Rattle.text.proofs.Put.{put_then, put_room, put_as}
+use Rattle.text.proofs.Put.{put_then, put_as}
 use Rattle.text.proofs.print.Output.answer.Goals as goal
 
 pub rest-requires : goal.rest-requires
 rest-requires c =
-    put_room 34 34 c.places.ensures (places_short c.args.answer.place c.args.answer.low c.args.answer.high) c.requires
+    omega (arith, places_short c.args.answer.place c.args.answer.low c.args.answer.high)
 
 pub returns-then-answer-eq0 : goal.returns-then-answer-eq0
 returns-then-answer-eq0 c =

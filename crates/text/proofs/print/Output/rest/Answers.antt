@@ -4,22 +4,17 @@ use Rattle.arith.specs.SignedLaws.{read, back}
 use Rattle.text.specs.DecimalLaws.{signed_short}
 use Rattle.text.specs.PrintLaws.{field_short}
 use Rattle.text.specs.Code.Halves.{rest_text}
-use Rattle.text.proofs.Put.{put_then, put_room, put_as}
+use Rattle.text.proofs.Put.{put_then, put_as}
 use Rattle.text.proofs.print.Output.rest.Goals as goal
 
 pub field-requires : goal.field-requires
-field-requires c = put_room 11 11 c.signed.ensures (signed_short (read w32 c.args.duv)) (put_room 1 22 c.byte.ensures (omega arith) (omega arith))
+field-requires c = omega (arith, signed_short (read w32 c.args.duv))
 
 pub byte-requires-2 : goal.byte-requires-2
-byte-requires-2 c =
-    put_room 11 1 c.field.ensures (field_short c.args.steps)
-    (put_room 11 12 c.signed.ensures (signed_short (read w32 c.args.duv)) (put_room 1 23 c.byte.ensures (omega arith) (omega arith)))
+byte-requires-2 c = omega (arith, signed_short (read w32 c.args.duv), field_short c.args.steps)
 
 pub class-requires : goal.class-requires
-class-requires c =
-    put_room 1 10 c.byte-2.ensures (omega arith)
-    (put_room 11 11 c.field.ensures (field_short c.args.steps)
-    (put_room 11 22 c.signed.ensures (signed_short (read w32 c.args.duv)) (put_room 1 33 c.byte.ensures (omega arith) c.requires)))
+class-requires c = omega (arith, signed_short (read w32 c.args.duv), field_short c.args.steps)
 
 pub returns : goal.returns
 returns c =
