@@ -1,7 +1,7 @@
 -- What spectral samples come to (document 02, No. 1): u and v in micro, or a refusal. Definitions only. Of four lists, s has the samples, and
 -- x, y and z are the observer's tables, its colour-matching functions in millionths.
 use Rattle.std.specs.Prelude.{ℕ, zero, suc, ◌+◌, ◌*◌, ◌/◌, ◌^◌, max, Bool, ◌&&◌, cond, List, [], ◌∷◌, leb, ltb, eqb, length, Err}
-use Rattle.arith.specs.Every.{every}
+use Rattle.std.specs.List.{list_all}
 use Rattle.refusal.specs.declared.Refusal.TheVariants.{TooDark, BadLengths, SampleTooLarge}
 use Rattle.reading.specs.Convert.{Converted, of_xyz}
 use Rattle.spectral.specs.declared.Tristimulus.{Tristimulus}
@@ -25,7 +25,7 @@ lengths_good s x y z =
 
 -- each number of the list is at most the limit
 abbrev pub all_at_most : ℕ → List ℕ → Bool
-all_at_most limit l = every (λ (n : ℕ). leb n limit) l
+all_at_most limit l = list_all (λ (n : ℕ). leb n limit) l
 
 -- Refusal 10 is given where this fails: every sample and every table's number is at most its limit.
 unfoldable pub limits_good : (s x y z : List ℕ) → Bool

@@ -54,7 +54,7 @@ pub shift_least : (n : ℕ) → n < 2 ^ 64 → LeastShift n (shift_of n)
 shift_least n h = rw (shift_leading n h) at (by_leading n h)
 
 -- what the shift of the largest leaves of a number that is no larger
-shifted_under : (n a : ℕ) → n < 2 ^ 64 → a ≤ n → a / 2 ^ shift_of n < 2 ^ 32
+pub shifted_under : (n a : ℕ) → n < 2 ^ 64 → a ≤ n → a / 2 ^ shift_of n < 2 ^ 32
 shifted_under n a h l = omega (arith, (shift_least n h).under, shr_mono {a = a} {b = n} (shift_of n) l)
 
 -- each of X, Y and Z is under 2^32

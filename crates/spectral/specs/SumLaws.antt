@@ -4,7 +4,7 @@ use Rattle.std.proofs.Common.{sym, le_of_suc-le-suc, not-suc-le-zero, mul-le-mul
 use Prim.Native.Nat.{ℕ, zero, suc, ◌+◌, ◌*◌, ◌^◌, ◌≤◌, ◌<◌}
 use native.Mathlib.Omega.{arith}
 use Rattle.arith.specs.TestLaws.{and_both}
-use Rattle.arith.specs.EveryLaws.{every_at}
+use Rattle.std.proofs.lemmas.List.Sums.{AllPass-from_list_all}
 use Rattle.spectral.specs.Samples.{most_samples, sample_limit, table_limit, lengths_good, all_at_most, limits_good, sum_of_products, sums, largest}
 use Rattle.spectral.specs.Conditions.{Sound}
 use Rattle.spectral.specs.Code.Summable.{Summable}
@@ -20,7 +20,7 @@ next_suc (a ∷ s) (b ∷ t) (suc k) h l = omega (arith, next_suc s t k (le_of_s
 
 -- an element of a list whose numbers are at most the limit
 element_at_most : (limit : ℕ) (l : List ℕ) → all_at_most limit l ≡ true → (k : ℕ) → k < length l → get_or l k 0 ≤ limit
-element_at_most limit l e k h = leb-true (get_or l k 0) limit (every_at (λ (n : ℕ). leb n limit) l 0 e k h)
+element_at_most limit l e k h = leb-true (get_or l k 0) limit (AllPass-from_list_all (λ (n : ℕ). leb n limit) l e k 0 h)
 
 -- what may be added up
 module _ (s t : List ℕ) (h : Summable s t) where

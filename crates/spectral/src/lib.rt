@@ -1,8 +1,9 @@
 // Spectral samples, and the CIE 1960 u and v that they come to, in micro (document 02, No. 1).
 #![tactic(auto)]
 
-ghost use Rattle.std.specs.Prelude.{◌≡◌, ◌*◌, max};
-ghost use Rattle.spectral.specs.Samples.{lengths_good, all_at_most, limits_good, sums, shift_of, divided, of_divided, convert_samples};
+ghost use Rattle.std.specs.Prelude.{◌≡◌, ◌≤◌, true, ◌&&◌, nat_le, fold};
+ghost use Rattle.spectral.specs.Samples.{lengths_good, limits_good, sums, shift_of, divided, of_divided, convert_samples};
+ghost use Rattle.spectral.specs.ShiftLaws.{Under};
 ghost use Rattle.spectral.specs.Conditions.{Sound};
 
 use reading::{Converted, Source};
@@ -34,99 +35,88 @@ const SAMPLE_LIMIT: u32 = 16777215;
 // The largest number of a table that is taken.
 const TABLE_LIMIT: u32 = 4000000;
 
-// Whether there are 1 to 471 samples, and as many numbers in each table.
-fn lengths_good(samples: &[u32], x_bar: &[u32], y_bar: &[u32], z_bar: &[u32]) -> bool
-    ensures { result ≡ lengths_good samples.now x_bar.now y_bar.now z_bar.now }
-{
-    let n = samples.len();
-    (1 <= n) & (n <= MOST_SAMPLES) & (x_bar.len() == n) & (y_bar.len() == n) & (z_bar.len() == n)
-}
-
 // Whether each number is at most the limit.
 fn all_at_most(numbers: &[u32], limit: u32) -> bool
-    ensures { result ≡ all_at_most limit numbers.now }
+    ensures { result ≡ fold (λ good n. good && nat_le n limit) true numbers.now }
 {
-    let mut good = true;
-    let mut i: usize = 0;
-    while i < numbers.len() {
-        good = good & (numbers[i] <= limit);
-        i += 1;
+    numbers.iter().fold(true, |good, n| good & (*n <= limit))
+}
+
+impl<'a> Samples<'a> {
+    // Whether there are 1 to 471 samples, and as many numbers in each table.
+    #[tactic(auto, unfolding(crate::specs::Samples::lengths_good))]
+    fn lengths_good(&self) -> bool
+        ensures { result ≡ lengths_good self.now.samples.now self.now.x_bar.now self.now.y_bar.now self.now.z_bar.now }
+    {
+        let n = self.samples.len();
+        (1 <= n)
+            & (n <= MOST_SAMPLES)
+            & (self.x_bar.len() == n)
+            & (self.y_bar.len() == n)
+            & (self.z_bar.len() == n)
     }
-    good
-}
 
-// Whether each sample and each table's number is at most its limit.
-fn limits_good(samples: &[u32], x_bar: &[u32], y_bar: &[u32], z_bar: &[u32]) -> bool
-    ensures { result ≡ limits_good samples.now x_bar.now y_bar.now z_bar.now }
-{
-    all_at_most(samples, SAMPLE_LIMIT)
-        & all_at_most(x_bar, TABLE_LIMIT)
-        & all_at_most(y_bar, TABLE_LIMIT)
-        & all_at_most(z_bar, TABLE_LIMIT)
-}
-
-// A sample times a table's number.
-fn product(sample: u32, weight: u32) -> u64
-    ensures { result ≡ sample * weight }
-{
-    sample as u64 * weight as u64
-}
-
-// X, Y and Z: the sums of the products of the samples with each table, in one pass over the four lists.
-fn sums_of(samples: &[u32], x_bar: &[u32], y_bar: &[u32], z_bar: &[u32]) -> Tristimulus
-    requires { Sound samples.now x_bar.now y_bar.now z_bar.now }
-    ensures { result ≡ sums samples.now x_bar.now y_bar.now z_bar.now }
-{
-    let mut x: u64 = 0;
-    let mut y: u64 = 0;
-    let mut z: u64 = 0;
-    let mut k: usize = 0;
-    while k < samples.len() {
-        let sample = samples[k];
-        x += product(sample, x_bar[k]);
-        y += product(sample, y_bar[k]);
-        z += product(sample, z_bar[k]);
-        k += 1;
+    // Whether each sample and each table's number is at most its limit.
+    fn limits_good(&self) -> bool
+        ensures { result ≡ limits_good self.now.samples.now self.now.x_bar.now self.now.y_bar.now self.now.z_bar.now }
+    {
+        all_at_most(self.samples, SAMPLE_LIMIT)
+            & all_at_most(self.x_bar, TABLE_LIMIT)
+            & all_at_most(self.y_bar, TABLE_LIMIT)
+            & all_at_most(self.z_bar, TABLE_LIMIT)
     }
-    Tristimulus { x: x, y: y, z: z }
-}
 
-// The larger of two sums.
-fn greater(x: u64, y: u64) -> u64
-    ensures { result ≡ max x y }
-{
-    if x < y { y } else { x }
+    // X, Y and Z: the sums of the products of the samples with each table, in one pass over the four lists.
+    fn sums(&self) -> Tristimulus
+        requires { Sound self.now.samples.now self.now.x_bar.now self.now.y_bar.now self.now.z_bar.now }
+        ensures { result ≡ sums self.now.samples.now self.now.x_bar.now self.now.y_bar.now self.now.z_bar.now }
+    {
+        let mut sums = Tristimulus { x: 0, y: 0, z: 0 };
+        for (k, sample) in self.samples.iter().enumerate() {
+            let sample = *sample as u64;
+            sums.x += sample * self.x_bar[k] as u64;
+            sums.y += sample * self.y_bar[k] as u64;
+            sums.z += sample * self.z_bar[k] as u64;
+        }
+        sums
+    }
 }
 
 // The least k for which n / 2^k is under 2^32: as many bits as n has beyond 32.
+#[tactic(auto, using(crate::specs::ShiftLaws::shift_leading))]
 fn shift_for(n: u64) -> u32
-    ensures { result ≡ shift_of n }
+    ensures least { result ≡ shift_of n }
+    ensures few { result ≤ 32 }
 {
-    let zeros = u64::leading_zeros(n);
-    if zeros < 32 { 32 - zeros } else { 0 }
+    32u32.saturating_sub(n.leading_zeros())
 }
 
-// X, Y and Z divided by the least power of two that leaves the largest under 2^32.
-fn divide(sums: Tristimulus) -> Tristimulus
-    ensures { result ≡ divided sums }
-{
-    let shift = shift_for(greater(greater(sums.x, sums.y), sums.z));
-    Tristimulus {
-        x: sums.x >> shift,
-        y: sums.y >> shift,
-        z: sums.z >> shift,
+impl Tristimulus {
+    // X, Y and Z divided by the least power of two that leaves the largest under 2^32.
+    #[tactic(auto, using(crate::specs::ShiftLaws::shifted_under), unfolding(crate::specs::Samples::divided))]
+    fn divide(self) -> Tristimulus
+        ensures quotients { result ≡ divided self }
+        ensures under { Under result }
+    {
+        let shift = shift_for(self.x.max(self.y).max(self.z));
+        Tristimulus {
+            x: self.x >> shift,
+            y: self.y >> shift,
+            z: self.z >> shift,
+        }
     }
-}
 
-// What the three sums come to: refusal 4 where the division leaves no Y, or the point.
-fn of_sums(sums: Tristimulus) -> Converted
-    ensures { result ≡ of_divided (divided sums) }
-{
-    let values = divide(sums);
-    if values.y == 0 {
-        return Err(Refusal::TooDark);
+    // What the three sums come to: refusal 4 where the division leaves no Y, or the point.
+    #[tactic(auto, unfolding(crate::specs::Samples::of_divided))]
+    fn convert(self) -> Converted
+        ensures { result ≡ of_divided (divided self) }
+    {
+        let values = self.divide();
+        if values.y == 0 {
+            return Err(Refusal::TooDark);
+        }
+        reading::of_xyz(values.x as u32, values.y as u32, values.z as u32)
     }
-    reading::of_xyz(values.x as u32, values.y as u32, values.z as u32)
 }
 
 // What the samples come to with the observer's three tables.
@@ -138,12 +128,12 @@ impl<'a> Source for Samples<'a> {
         ensures converts { result ≡ convert_samples self.entry.samples.now self.entry.x_bar.now self.entry.y_bar.now self.entry.z_bar.now }
         ensures unchanged { (self.exit.samples.now ≡ self.entry.samples.now) × (self.exit.x_bar.now ≡ self.entry.x_bar.now) × (self.exit.y_bar.now ≡ self.entry.y_bar.now) × (self.exit.z_bar.now ≡ self.entry.z_bar.now) }
     {
-        if !lengths_good(self.samples, self.x_bar, self.y_bar, self.z_bar) {
+        if !self.lengths_good() {
             return Err(Refusal::BadLengths);
         }
-        if !limits_good(self.samples, self.x_bar, self.y_bar, self.z_bar) {
+        if !self.limits_good() {
             return Err(Refusal::SampleTooLarge);
         }
-        of_sums(sums_of(self.samples, self.x_bar, self.y_bar, self.z_bar))
+        self.sums().convert()
     }
 }
