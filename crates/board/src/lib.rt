@@ -183,7 +183,8 @@ impl Board {
         ensures theirs_unchanged { held theirs.exit ≡ held theirs.entry }
     {
         let n = ours.len();
-        if !fits(n, theirs.len()) {
+        let m = theirs.len();
+        if !fits(n, m) {
             return Answered {
                 board: Board::empty(0),
                 told: Err(Denied::TooManyLots),

@@ -1,17 +1,13 @@
 // Boards through the C ABI.
-ghost use Rattle.std.specs.Prelude.{◌≡◌};
+ghost use Rattle.std.specs.Prelude.{◌≡◌, MatchResult};
 ghost use Rattle.records.specs.Columns.{columns, list_of};
 ghost use Rattle.board.specs.Table.{reads, assigns};
-ghost use Rattle.board.specs.Boards.{loaded};
-ghost use Rattle.cct_c.specs.PlainBoards.{plain_told, plain_answered, party_of, no_place, asked};
+ghost use Rattle.board.specs.Boards.{loaded, party_numbered};
+ghost use Rattle.cct_c.specs.PlainBoards.{plain_told, plain_answered, asked};
 
-use board::{Answered, Board, Lot, Party, Told, ZERO_LOT};
+use board::{Answered, Board, Denied, Lot, Party, Told, ZERO_LOT};
+use records::Columns;
 use refusal::Refusal;
-
-// The numbers of the parties: ours, and the last, which is the partner.
-const OURS: u8 = 0;
-
-const LAST_PARTY: u8 = 1;
 
 // What a call is told: the lot, the stamp and the number of the refusal, with zeros in all that it does not carry.
 #[repr(C)]
@@ -22,6 +18,12 @@ pub struct PlainTold {
     pub refusal: u8,
 }
 
+const ZERO_TOLD: PlainTold = PlainTold {
+    lot: ZERO_LOT,
+    stamp: 0,
+    refusal: 0,
+};
+
 // The board after a call, and what the call is told.
 #[repr(C)]
 #[derive(Clone, Copy)]
@@ -30,61 +32,30 @@ pub struct BoardAnswer {
     pub told: PlainTold,
 }
 
-fn plain_told(told: Told) -> PlainTold
-    ensures { result ≡ plain_told told }
-{
-    match told {
-        Told::Loaded => PlainTold {
-            lot: ZERO_LOT,
-            stamp: 0,
-            refusal: 0,
-        },
-        Told::Holds(lot) => PlainTold {
-            lot: lot,
-            stamp: 0,
-            refusal: 0,
-        },
-        Told::Stored => PlainTold {
-            lot: ZERO_LOT,
-            stamp: 0,
-            refusal: 0,
-        },
-        Told::Refused(refusal, stamp) => PlainTold {
-            lot: ZERO_LOT,
-            stamp: stamp,
-            refusal: refusal.number(),
-        },
+impl From<Result<Told, Denied>> for PlainTold {
+    ghost from_gives = { λ told plain. plain ≡ plain_told told };
+
+    fn from(told: Result<Told, Denied>) -> PlainTold {
+        match told {
+            Ok(Told::Holds(lot)) => PlainTold { lot, ..ZERO_TOLD },
+            Ok(_) => ZERO_TOLD,
+            Err(denied) => PlainTold {
+                stamp: denied.stamp(),
+                refusal: u8::from(Refusal::from(denied)),
+                ..ZERO_TOLD
+            },
+        }
     }
 }
 
-fn plain_answered(answered: Answered) -> BoardAnswer
-    ensures { result ≡ plain_answered answered }
-{
-    let board = answered.board;
-    let told = answered.told;
-    BoardAnswer {
-        board: board,
-        told: plain_told(told),
-    }
-}
+impl From<Answered> for BoardAnswer {
+    ghost from_gives = { λ answered plain. plain ≡ plain_answered answered };
 
-// The party of a number under 2.
-fn party_of(number: u8) -> Party
-    ensures { result ≡ party_of number }
-{
-    if number == OURS {
-        return Party::Ours;
-    }
-    Party::Partner
-}
-
-// What a caller who is no party is told.
-fn no_place(board: Board) -> Answered
-    ensures { result ≡ no_place board }
-{
-    Answered {
-        board: board,
-        told: Told::Refused(Refusal::NoSuchPlace, 0),
+    fn from(answered: Answered) -> BoardAnswer {
+        BoardAnswer {
+            board: answered.board,
+            told: PlainTold::from(answered.told),
+        }
     }
 }
 
@@ -112,11 +83,41 @@ pub extern "C" fn ck_board_load(
     ensures unchanged { columns u.exit.now v.exit.now place.exit.now low.exit.now high.exit.now duv.exit.now steps.exit.now class.exit.now ≡ columns u.entry.now v.entry.now place.entry.now low.entry.now high.entry.now duv.entry.now steps.entry.now class.entry.now }
     ensures theirs_unchanged { columns u2.exit.now v2.exit.now place2.exit.now low2.exit.now high2.exit.now duv2.exit.now steps2.exit.now class2.exit.now ≡ columns u2.entry.now v2.entry.now place2.entry.now low2.entry.now high2.entry.now duv2.entry.now steps2.entry.now class2.entry.now }
 {
-    let answered = Board::load(
-        u, v, place, low, high, duv, steps, class, u2, v2, place2, low2, high2, duv2, steps2,
-        class2,
-    );
-    plain_answered(answered)
+    let ours = Columns {
+        u,
+        v,
+        place,
+        low,
+        high,
+        duv,
+        steps,
+        class,
+    };
+    let theirs = Columns {
+        u: u2,
+        v: v2,
+        place: place2,
+        low: low2,
+        high: high2,
+        duv: duv2,
+        steps: steps2,
+        class: class2,
+    };
+    BoardAnswer::from(Board::load(ours, theirs))
+}
+
+// What a call in the name of a number's party is answered; a number that is no party's finds no place.
+fn asked<F: FnOnce(Party) -> Answered>(party: u8, board: Board, call: F) -> Answered
+    requires { F.IsAlwaysCallable call }
+    ensures { MatchResult (party_numbered party) (λ w. F.post call w result) (λ d. result ≡ record { board = board; told = Err d }) }
+{
+    match Party::try_from(party) {
+        Ok(party) => call(party),
+        Err(denied) => Answered {
+            board,
+            told: Err(denied),
+        },
+    }
 }
 
 // Reads the lot at a place of the party's.
@@ -124,10 +125,8 @@ pub extern "C" fn ck_board_load(
 pub extern "C" fn ck_board_read(board: Board, party: u8, place: usize) -> BoardAnswer
     ensures { result ≡ plain_answered (asked party board (λ w. reads w place)) }
 {
-    if party > LAST_PARTY {
-        return plain_answered(no_place(board));
-    }
-    plain_answered(board.read(party_of(party), place))
+    let answered = asked(party, board, |party| board.read(party, place));
+    BoardAnswer::from(answered)
 }
 
 // Assigns the lot at a place of the party's to a job.
@@ -141,8 +140,6 @@ pub extern "C" fn ck_board_assign(
 ) -> BoardAnswer
     ensures { result ≡ plain_answered (asked party board (λ w. assigns w place stamp job)) }
 {
-    if party > LAST_PARTY {
-        return plain_answered(no_place(board));
-    }
-    plain_answered(board.assign(party_of(party), place, stamp, job))
+    let answered = asked(party, board, |party| board.assign(party, place, stamp, job));
+    BoardAnswer::from(answered)
 }

@@ -22,14 +22,14 @@ returns-then-not-fits-clause-answered c =
     let ys = held c.args.theirs in
     let over = leb-false _ most_lots (sym c.fits.ensures ∙ c.if-not-fits.true) in
     ap (λ (b : Board). record { board = b; told = Err TooManyLots }) c.empty.ensures
-    ∙ sym (load_over (list_of xs) (list_of ys) (omega (arith, together xs ys, over, c.len-n.ensures.length, c.len.ensures.length)))
+    ∙ sym (load_over (list_of xs) (list_of ys) (omega (arith, together xs ys, over, c.len-n.ensures.length, c.len-m.ensures.length)))
 
 pub with_list-requires-2-clause-room : goal.with_list-requires-2-clause-room
 with_list-requires-2-clause-room c =
     let xs = list_of (held c.args.ours) in
     let room = leb-true _ most_lots (sym c.fits.ensures ∙ c.if-not-fits.false) in
     let b = joined c.len-n.result [] (map fresh xs) c.empty-2.ensures c.with_list.ensures in
-    omega (arith, ap (λ (z : Board). z.count) b, length-map xs fresh, length_list (held c.args.ours), room, c.len-n.ensures.length, c.len.ensures.length)
+    omega (arith, ap (λ (z : Board). z.count) b, length-map xs fresh, length_list (held c.args.ours), room, c.len-n.ensures.length, c.len-m.ensures.length)
 
 pub returns-clause-answered : goal.returns-clause-answered
 returns-clause-answered c =
@@ -41,4 +41,4 @@ returns-clause-answered c =
     let both = joined n (map fresh xs) (map fresh ys) ours c.with_list-2.ensures in
     ap (λ (b : Board). record { board = b; told = Ok Loaded })
     (both ∙ ap (board_of n) (sym (map-append fresh xs ys)) ∙ ap (λ (k : ℕ). board_of k (map fresh (xs ++ ys))) (c.len-n.ensures.length ∙ sym (length_list (held c.args.ours))))
-    ∙ sym (load_taken xs ys (omega (arith, together (held c.args.ours) (held c.args.theirs), room, c.len-n.ensures.length, c.len.ensures.length)))
+    ∙ sym (load_taken xs ys (omega (arith, together (held c.args.ours) (held c.args.theirs), room, c.len-n.ensures.length, c.len-m.ensures.length)))
