@@ -60,6 +60,7 @@ impl From<Refusal> for Answer {
 impl From<Answer> for FloatAnswer {
     ghost from_gives = { λ a f. f ≡ float_answer a };
 
+    #[tactic(auto, using(crate::proofs::Assembly::zero_float), unfolding(crate::specs::FloatAnswers::float_answer))]
     fn from(answer: Answer) -> FloatAnswer {
         if answer.refusal == 0 {
             FloatAnswer {
@@ -87,6 +88,7 @@ fn signed_by(locus_v: u32, v: u32, d: u32) -> i32
 }
 
 // Duv of a reading against the locus at the best point of its search.
+#[tactic(auto, unfolding(crate::specs::Answers::duv_at))]
 fn duv_on(span: Span, p: Chromaticity, found: Search) -> i32
     requires { OnSpan span p.u p.v found.best found.distance }
     ensures { result ≡ duv_at p.u p.v found.best }
@@ -97,6 +99,7 @@ fn duv_on(span: Span, p: Chromaticity, found: Search) -> i32
 }
 
 // The answer to a reading whose nearest entry is known: the search, Duv and the class.
+#[tactic(auto, unfolding(crate::specs::Answers::accepted, search::specs::Code::Found::found))]
 fn accepted_answer(
     span: Span,
     p: Chromaticity,
@@ -122,6 +125,7 @@ fn accepted_answer(
 }
 
 // The accepted answer to what a reading was converted to, or why there is none: refusal 1 comes first, and 5, 6 and 7 come last.
+#[tactic(auto, unfolding(crate::specs::Answers::answer, crate::specs::Answers::checked, crate::specs::Answers::checked_point))]
 fn try_answer(converted: Converted, edges: &[u32], max_steps: u32) -> Result<Answer, Refusal>
     ensures { settled refused result ≡ answer edges.now converted max_steps }
 {

@@ -1,13 +1,15 @@
 -- A class holds three places exactly when it holds the hottest and the coolest of them: the test is monotone in the place.
-use mathlib.Core.Path.{◌≡◌, refl, sym, ◌∙◌}
+use mathlib.Core.Path.{◌≡◌, refl, sym, ap, ◌∙◌}
 use mathlib.Core.Bool.{Bool, true, false, ◌&&◌, and_comm}
-use mathlib.Core.List.{List}
+use mathlib.Core.List.{List, [], ◌∷◌}
+use Rattle.std.specs.Prelude.{drop}
+use Rattle.std.specs.List.{zip}
 use mathlib.Core.Logic.{◌⊎◌, inl, inr, ⊎_elim}
 use Prim.Native.Nat.{ℕ, ◌+◌, ◌≤◌, min, max}
 use native.Mathlib.Omega.{arith}
 use lib.Dec.{leb}
 use borrow.Author.Tests.{leb-true, leb-false}
-use Rattle.classes.specs.Edges.{edge}
+use Rattle.classes.specs.Edges.{edge, neighbours}
 use Rattle.classes.specs.Classes.{at_least, below, holds_all}
 use Rattle.classes.specs.ClassLaws.{at_least_lower, below_higher}
 
@@ -56,3 +58,9 @@ holds_ends es low high best j a b c d e =
     let to : ℕ = edge es (j + 1) in
     regroup (at_least from low) (below to low) (at_least from high) (below to high) (at_least from best) (below to best)
     ∙ rw (e, d, c, b, a, at_least_max from (max low high) best, at_least_max from low high, below_min to (min low high) best, below_min to low high) refl
+
+-- the pairs of an edge and what stands one place later are the neighbours
+pub zip_next : (es : List ℕ) → zip es (drop 1 es) ≡ neighbours es
+zip_next [] = refl
+zip_next (x ∷ []) = refl
+zip_next (x ∷ y ∷ l) = ap (◌∷◌ (x, y)) (zip_next (y ∷ l))

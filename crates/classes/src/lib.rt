@@ -28,6 +28,7 @@ fn in_range(edges: &[u32]) -> bool
 }
 
 // Whether the edges meet refusal 1's rule: 2 to 32, strictly rising, each from 1600 to 20001.
+#[tactic(auto, using(std::proofs::lemmas::Grind::common_steps, crate::proofs::Ends::zip_next), unfolding(crate::specs::Edges::edges_valid))]
 pub fn edges_valid(edges: &[u32]) -> bool
     ensures valid { result ≡ edges_valid edges.now }
     ensures unchanged { edges.exit.now ≡ edges.entry.now }
@@ -45,6 +46,7 @@ fn is_within(from: u32, to: u32, hottest: u32, coolest: u32) -> bool
 }
 
 // The class that holds the bracket's ends and its best point, otherwise 255. The classes with a number below 255 are looked at.
+#[tactic(auto, using(crate::proofs::Ends::holds_ends, crate::specs::ClassLaws::last_next), unfolding(crate::specs::Classes::last_passing))]
 pub fn class_of(edges: &[u32], low: u32, high: u32, best: u32) -> u8
     ensures class { result ≡ class_of edges.now low high best }
     ensures unchanged { edges.exit.now ≡ edges.entry.now }

@@ -31,6 +31,7 @@ impl From<Refusal> for Coarse {
 }
 
 // The nearest ready place to what a reading was converted to, or why there is none: refusals 5, 6 and 7 come last.
+#[tactic(auto, unfolding(crate::specs::Coarse::coarse, cct::specs::Answers::checked_point))]
 fn try_coarse(table: &ReadyTable, converted: Converted) -> Result<Coarse, Refusal>
     ensures { settled refused_coarse result ≡ coarse converted }
 {
