@@ -1,72 +1,64 @@
 -- The form of a file and the record at an index, by the tests that the code makes.
 use mathlib.Core.Path.{◌≡◌, refl, ap, sym, ◌∙◌}
 use Prim.Native.Nat.{ℕ, ◌+◌, ◌-◌, ◌*◌, ◌/◌, ◌≤◌, ◌<◌}
-use mathlib.Core.Bool.{true, false, ◌&&◌}
+use mathlib.Core.Bool.{Bool, true, false, cond, ◌||◌}
 use mathlib.Core.List.{List}
 use native.Mathlib.Omega.{arith}
 use lib.Dec.{eqb}
 use lib.ListN.{length, take, drop, get_or}
 use lib.Seq.{drop-drop}
-use borrow.Author.Tests.{lt-ltb, le-ltb, le-leb, lt-leb, eq-eqb, ne_eqb}
+use borrow.Author.Tests.{lt-ltb, le-ltb, eqb-true}
 use Rattle.refusal.specs.declared.Refusal.{Refusal}
-use Rattle.refusal.specs.declared.Refusal.TheVariants.{TooManyRecords, NoTrailer, BadRecordLength, BadTrailer}
+use Rattle.refusal.specs.declared.Refusal.TheVariants.{NoTrailer, BadRecordLength}
 use Rattle.records.specs.Bytes.{number}
 use Rattle.records.specs.Fields.{duv_width_of, front_record}
-use Rattle.records.specs.Files.{known_length, most_records, zero_record, record_at, trailer_form, form, form_of, form_records, records_of}
+use Rattle.records.specs.Layout.{width_of, length_of, layout_of}
+use Rattle.records.specs.Files.{known_length, zero_record, record_at, trailer_form, form, form_of, form_records, records_of}
 use Rattle.records.specs.Conditions.{Known, of_18, of_20}
-use Rattle.records.specs.RefusalLaws.{form_readable}
+use Rattle.records.specs.RefusalLaws.{known_true, form_readable}
 use Rattle.records.specs.RoundTripLaws.{readable_record}
+use Rattle.records.specs.declared.layout.Layout.{Layout}
+use Rattle.records.specs.declared.layout.Layout.TheVariants.{Earlier, Written}
 use Rattle.records.specs.declared.fields.Record.{Record}
 use Rattle.records.specs.declared.files.Form.{Form}
 use Rattle.std.specs.Prelude.{Result, Ok, Err}
 
+-- the layout of records of a length that is read, and of no other
+pub layout_length : (long : ℕ) (y : Layout) → Ok y ≡ layout_of long → long ≡ length_of y
+layout_length long y e = go (eqb long 18) (eqb long 20) refl refl e
+  where
+    go : (a b : Bool) → eqb long 18 ≡ a → eqb long 20 ≡ b → Ok y ≡ cond a (Ok Earlier) (cond b (Ok Written) (Err BadRecordLength)) → long ≡ length_of y
+    go true b f g h = let same : Earlier ≡ y = cc in eqb-true long 18 f ∙ ap length_of same
+    go false true f g h = let same : Written ≡ y = cc in eqb-true long 20 g ∙ ap length_of same
+    go false false f g h = cc
+
+pub layout_known : (y : Layout) → Known (length_of y)
+layout_known Earlier = of_18 refl
+layout_known Written = of_20 refl
+
+pub no_layout : (long : ℕ) {r : Refusal} → Err r ≡ layout_of long → known_length long ≡ false
+no_layout long {r} e = go (eqb long 18) (eqb long 20) e
+  where
+    go : (a b : Bool) → Err r ≡ cond a (Ok Earlier) (cond b (Ok Written) (Err BadRecordLength)) → a || b ≡ false
+    go true b h = cc
+    go false true h = cc
+    go false false h = refl
+
 module _ (long : ℕ) (l : List ℕ) (i : ℕ) where
-  pub at_unknown : known_length long ≡ false → zero_record ≡ record_at long l i
+  pub at_unknown : {r : Refusal} → Err r ≡ layout_of long → zero_record ≡ record_at long l i
   unfolding record_at
-  at_unknown e = rw e refl
+  at_unknown e = rw (no_layout long e) refl
 
-  pub at_whole : (r : Record) → known_length long ≡ true → i < length l / long → r ≡ front_record (duv_width_of long) (drop (long * i) l) → r ≡ record_at long l i
+  pub at_whole : (y : Layout) (r : Record) → Ok y ≡ layout_of long → i < length l / length_of y → r ≡ front_record (width_of y) (drop (long * i) l) → r ≡ record_at long l i
   unfolding record_at
-  at_whole r e h f = f ∙ rw (e, lt-ltb i (length l / long) h) refl
+  at_whole y r e h f =
+      let k = layout_length long y e in
+      let w : duv_width_of (length_of y) ≡ width_of y = omega arith in
+      f ∙ rw (k, known_true (length_of y) (layout_known y), lt-ltb i (length l / length_of y) h, w) refl
 
-  pub at_none : known_length long ≡ true → length l / long ≤ i → zero_record ≡ record_at long l i
+  pub at_none : (y : Layout) → Ok y ≡ layout_of long → length l / length_of y ≤ i → zero_record ≡ record_at long l i
   unfolding record_at
-  at_none e h = rw (e, le-ltb i (length l / long) h) refl
-
--- the most records, by the test of their length
-pub most_earlier : (long : ℕ) → long ≡ 18 → 3600 ≡ most_records long
-most_earlier long e = rw (eq-eqb long 18 e) refl
-
-pub most_other : (long : ℕ) → (long ≡ 18 → ⊥) → 3200 ≡ most_records long
-most_other long h = rw (ne_eqb long 18 h) refl
-
--- a length of records that are read, where it is not 18
-pub other_length : (long : ℕ) → Known long → (long ≡ 18 → ⊥) → long ≡ 20
-other_length long (of_18 e) h = absurd (h e)
-other_length long (of_20 e) h = e
-
--- and whichever it is
-pub between : (long : ℕ) → Known long → (18 ≤ long) × (long ≤ 20)
-between long (of_18 e) = (omega (arith, e), omega (arith, e))
-between long (of_20 e) = (omega (arith, e), omega (arith, e))
-
--- what a trailer can tell of is within a word
-pub within_word : (long count : ℕ) → Known long → count < 4294967296 → long * count + 8 < 18446744073709551616
-within_word long count (of_18 e) h = rw e (omega arith)
-within_word long count (of_20 e) h = rw e (omega arith)
-
-module _ (long count back n : ℕ) where
-  pub wrong_length : known_length long ≡ false → Err BadRecordLength ≡ trailer_form long count back n
-  wrong_length e = rw e refl
-
-  pub wrong_trailer : known_length long ≡ true → eqb back (long * count) && eqb n (back + 8) ≡ false → Err BadTrailer ≡ trailer_form long count back n
-  wrong_trailer e h = rw (e, h) refl
-
-  pub too_many : known_length long ≡ true → eqb back (long * count) && eqb n (back + 8) ≡ true → most_records long < count → Err TooManyRecords ≡ trailer_form long count back n
-  too_many e h m = rw (e, h, lt-leb count (most_records long) m) refl
-
-  pub good_trailer : known_length long ≡ true → eqb back (long * count) && eqb n (back + 8) ≡ true → count ≤ most_records long → Ok (form long count) ≡ trailer_form long count back n
-  good_trailer e h m = rw (e, h, le-leb count (most_records long) m) refl
+  at_none y e h = let k = layout_length long y e in rw (k, known_true (length_of y) (layout_known y), le-ltb i (length l / length_of y) h) refl
 
 module _ (l : List ℕ) where
   pub form_short : length l < 8 → Err NoTrailer ≡ form_of l

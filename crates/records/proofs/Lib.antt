@@ -1,5 +1,4 @@
 pub mod Numbers
-pub mod Signed
 pub mod Stores
 pub mod Forms
 pub mod Rows

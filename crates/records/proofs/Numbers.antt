@@ -1,73 +1,68 @@
--- A number's bytes as a loop stores and reads them, one at a time.
+-- Numbers in bytes, as arrays of bytes hold them.
 use mathlib.Core.Path.{◌≡◌, refl, ap, sym, ◌∙◌}
-use Prim.Native.Nat.{ℕ, zero, suc, ◌+◌, ◌-◌, ◌*◌, ◌/◌, ◌%◌, ◌≤◌, ◌<◌}
-use mathlib.Core.List.{List}
+use Prim.Native.Nat.{ℕ, ◌+◌, ◌-◌, ◌≤◌, ◌<◌}
+use mathlib.Core.List.{List, [], ◌∷◌, ◌++◌, append_assoc}
 use native.Mathlib.Omega.{arith}
-use lib.ListN.{length, take, drop, get_or, set}
+use lib.ListN.{length, take, drop, get_or, length-take, length-drop}
 use lib.Seq.{sets, drop-cons, drop-drop}
-use lib.IntN.{ℤ}
-use mir.Syntax.{w8}
+use lib.IntN.{ℤ, pos, negsuc}
+use mir.Syntax.{w8, w16, w32}
 use mir.Val.{Fits}
-use Rattle.records.specs.Bytes.{bytes_of, number, capacity, as_signed}
-use Rattle.records.specs.BytesLaws.{Bytes, bytes_drop, number_fits}
+use borrow.Rule.Slice.PartMut.{put_mid}
+use Rattle.std.specs.Int.{to_le_bytes, from_le_bytes, cast_unsigned}
+use Rattle.std.proofs.lemmas.List.Edits.{sets-eq}
+use Rattle.records.specs.Bytes.{bytes_of, number, as_unsigned, as_signed}
+use Rattle.records.specs.BytesLaws.{Bytes}
 use Rattle.records.specs.Fields.{front_record}
 
--- with one byte stored, what is left to store comes to the same
-pub put_step : (out : List ℕ) (at i width rest : ℕ) → i < width → sets (set out (at + i) (rest % 256)) (at + (i + 1)) (bytes_of (width - (i + 1)) (rest / 256)) ≡ sets out (at + i) (bytes_of (width - i) rest)
-put_step out at i width rest h =
-    let k : width - i ≡ suc (width - (i + 1)) = omega arith in
-    let e : at + (i + 1) ≡ suc (at + i) = omega arith in
-    rw (k, e) refl
+-- a part of a buffer that is written as a whole
+pub part_put : (at n : ℕ) (old new bs : List ℕ) → new ≡ bs → length bs ≡ n → at + n ≤ length old → put_mid at (at + n - at) old new ≡ sets old at bs
+part_put at n old new bs e h k =
+    let j : at + n - at ≡ n = omega arith in
+    let m : at + n ≡ at + length bs = omega (arith, h) in
+    rw (j, e) (ap (λ (z : List ℕ). take at old ++ (bs ++ z)) (drop-drop n at old ∙ ap (λ (z : ℕ). drop z old) m) ∙ sym (sets-eq bs old at (omega (arith, h)) ∙ append_assoc (take at old) bs (drop (at + length bs) old)))
 
-pub put_all : (out : List ℕ) (at i width rest : ℕ) → width ≤ i → sets out (at + i) (bytes_of (width - i) rest) ≡ out
-put_all out at i width rest h = let k : width - i ≡ 0 = omega arith in rw k refl
+-- numbers to bytes
+pub bytes_2 : (n : ℕ) → to_le_bytes w16 n ≡ bytes_of 2 n
+bytes_2 n = grind arith
 
-pub put_none : (out : List ℕ) (at width rest : ℕ) → sets out (at + 0) (bytes_of (width - 0) rest) ≡ sets out at (bytes_of width rest)
-put_none out at width rest =
-    let k : width - 0 ≡ width = omega arith in
-    let e : at + 0 ≡ at = omega arith in
-    rw (k, e) refl
+pub bytes_4 : (n : ℕ) → to_le_bytes w32 n ≡ bytes_of 4 n
+bytes_4 n = grind arith
 
--- the bytes from i up to the width, and one before them
-pub read_step : (l : List ℕ) (at i width n : ℕ) → 0 < i → i ≤ width → at + width ≤ length l → n ≡ number (take (width - i) (drop (at + i) l)) →
-    256 * n + get_or l (at + (i - 1)) 0 ≡ number (take (width - (i - 1)) (drop (at + (i - 1)) l))
-read_step l at i width n p h r e =
-    let k : width - (i - 1) ≡ suc (width - i) = omega arith in
-    let j : suc (at + (i - 1)) ≡ at + i = omega arith in
-    rw (drop-cons l (at + (i - 1)) 0 (omega arith), k, j, e) (omega arith)
+pub signed_bytes : (z : ℤ) → to_le_bytes w32 (cast_unsigned w32 z) ≡ bytes_of 4 (as_unsigned 4 z)
+signed_bytes (pos n) = bytes_4 n
+signed_bytes (negsuc n) = bytes_4 (as_unsigned 4 (negsuc n))
 
-pub read_none : (l : List ℕ) (at width : ℕ) → 0 ≡ number (take (width - width) (drop (at + width) l))
-read_none l at width = let k : width - width ≡ 0 = omega arith in rw k refl
+-- and bytes to numbers
+number_2 : (bs : List ℕ) → length bs ≡ 2 → from_le_bytes w16 bs ≡ number bs
+number_2 [] h = absurd (omega arith)
+number_2 (a ∷ []) h = absurd (omega arith)
+number_2 (a ∷ b ∷ []) h = omega arith
+number_2 (a ∷ b ∷ c ∷ bs) h = absurd (omega arith)
 
-pub read_all : (l : List ℕ) (at i width n : ℕ) → i ≤ 0 → n ≡ number (take (width - i) (drop (at + i) l)) → n ≡ number (take width (drop at l))
-read_all l at i width n h e =
-    let k : width - i ≡ width = omega arith in
-    let j : at + i ≡ at = omega arith in
-    e ∙ rw (k, j) refl
+number_4 : (bs : List ℕ) → length bs ≡ 4 → from_le_bytes w32 bs ≡ number bs
+number_4 [] h = absurd (omega arith)
+number_4 (a ∷ []) h = absurd (omega arith)
+number_4 (a ∷ b ∷ []) h = absurd (omega arith)
+number_4 (a ∷ b ∷ c ∷ []) h = absurd (omega arith)
+number_4 (a ∷ b ∷ c ∷ d ∷ []) h = omega arith
+number_4 (a ∷ b ∷ c ∷ d ∷ e ∷ bs) h = absurd (omega arith)
 
--- the number read so far, and one byte more, fit
-three_bytes : (w : ℕ) → w ≤ 3 → capacity w ≤ 16777216
-three_bytes zero h = omega arith
-three_bytes (suc zero) h = omega arith
-three_bytes (suc (suc zero)) h = omega arith
-three_bytes (suc (suc (suc zero))) h = omega arith
-three_bytes (suc (suc (suc (suc w)))) h = absurd (omega arith)
+taken : (n at : ℕ) (l bs : List ℕ) → bs ≡ take n (drop at l) → at + n ≤ length l → length bs ≡ n
+taken n at l bs e h = ap length e ∙ simp (length-take, length-drop) (omega arith)
 
-pub room_for_byte : (i width n : ℕ) → 0 < i → width ≤ 4 → n < capacity (width - i) → n < 16777216
-room_for_byte i width n p h s = let k = three_bytes (width - i) (omega arith) in omega arith
+pub field_2 : (at : ℕ) (l : List ℕ) {bs : List ℕ} {n : ℕ} → n ≡ from_le_bytes w16 bs → bs ≡ take 2 (drop at l) → at + 2 ≤ length l → n ≡ number (take 2 (drop at l))
+field_2 at l {bs} f e h = f ∙ number_2 bs (taken 2 at l bs e h) ∙ ap number e
 
-pub read_fits : (i width n b : ℕ) → 0 < i → i ≤ width → n < capacity (width - i) → b < 256 → 256 * n + b < capacity (width - (i - 1))
-read_fits i width n b p h s t = let k : width - (i - 1) ≡ suc (width - i) = omega arith in rw k (omega arith)
+pub field_4 : (at : ℕ) (l : List ℕ) {bs : List ℕ} {n : ℕ} → n ≡ from_le_bytes w32 bs → bs ≡ take 4 (drop at l) → at + 4 ≤ length l → n ≡ number (take 4 (drop at l))
+field_4 at l {bs} f e h = f ∙ number_4 bs (taken 4 at l bs e h) ∙ ap number e
 
-pub none_fits : (width : ℕ) → 0 < capacity (width - width)
-none_fits width = let k : width - width ≡ 0 = omega arith in rw k (omega arith)
+pub byte_field : (at k : ℕ) (l : List ℕ) → k ≡ at → at < length l → get_or l k 0 ≡ number (take 1 (drop at l))
+byte_field at k l e h = rw (e, drop-cons l at 0 h) (omega arith)
 
 -- what is known of each byte of a slice, and so of a number in it
 pub each_byte : (l : List ℕ) → ((i : ℕ) → Fits w8 (get_or l i 0)) → Bytes l
 each_byte l h i = (h i).fits
-
-pub field_fits : (w at : ℕ) (l : List ℕ) → ((i : ℕ) → Fits w8 (get_or l i 0)) → number (take w (drop at l)) < capacity w
-field_fits w at l h = number_fits w (drop at l) (bytes_drop at l (each_byte l h))
 
 -- the record from a byte on, by its numbers
 onward : (m n k : ℕ) (l : List ℕ) {d : List ℕ} → d ≡ drop n l → n + m ≡ k → drop m d ≡ drop k l

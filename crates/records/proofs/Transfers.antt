@@ -18,7 +18,11 @@ use Rattle.records.specs.ColumnsLaws.{length_rows, length_list}
 use Rattle.records.specs.StoreLaws.{file_stored}
 use Rattle.records.specs.Transfer.{write_outcome, has_record_room, stored_into, closed_into, written, read_outcome}
 use Rattle.records.specs.Conditions.{Known, of_20, over_most, short_target, bad_form, short_columns}
-use Rattle.records.specs.RefusalLaws.{condition_write, clear_write, write_done, condition_read, clear_read, form_condition, form_readable}
+use Rattle.records.specs.Layout.{width_of, length_of, layout_of}
+use Rattle.records.proofs.Forms.{layout_length, no_layout}
+use Rattle.records.specs.declared.layout.Layout.{Layout}
+use Rattle.std.proofs.lemmas.Bool.{false≢true}
+use Rattle.records.specs.RefusalLaws.{known_true, condition_write, clear_write, write_done, condition_read, clear_read, form_condition, form_readable}
 use Rattle.records.specs.RoundTrips.{SameList, ReadsBack}
 use Rattle.records.specs.RoundTripLaws.{form_records_lem, read_written, written_read}
 use Rattle.records.specs.declared.fields.Record.{Record}
@@ -87,18 +91,22 @@ module _ (l : List ℕ) (long n room : ℕ) (e : form_of l ≡ Ok (form long n))
   pub done_read : n ≤ room → Ok n ≡ read_outcome l room
   done_read h = let k = form_readable l long n e in sym (clear_read l room k.0 (omega (arith, k.2)) ∙ ap Ok k.2)
 
-  -- the length of the records is known, and they are all in the file
-  pub known_read : Known long
-  known_read = let k = form_readable l long n e in subst Known k.1 k.0.trailed.length_of_record
+  -- the records have one of the layouts, and they are all in the file
+  pub laid_out : {r : Refusal} {A : Type 0} → Err r ≡ layout_of long → A
+  laid_out h =
+      let k = form_readable l long n e in absurd (false≢true (sym (no_layout long h) ∙ known_true long (subst Known k.1 k.0.trailed.length_of_record)))
 
-  pub file_holds : long * n ≤ length l
-  file_holds =
-      let k = form_readable l long n e in
-      let back : back_in l ≡ long * n = k.0.agrees.back ∙ (λ i. k.1 i * k.2 i) in
-      omega (arith, back, k.0.agrees.exact)
+  module _ (y : Layout) (h : Ok y ≡ layout_of long) where
+    pub file_holds : length_of y * n ≤ length l
+    file_holds =
+        let k = form_readable l long n e in
+        let back : back_in l ≡ length_of y * n = k.0.agrees.back ∙ (λ i. k.1 i * k.2 i) ∙ ap (λ (m : ℕ). m * n) (layout_length long y h) in
+        omega (arith, back, k.0.agrees.exact)
 
-  pub target_read : {c : Columns} (d : Columns) → c ≡ filled (records_in (duv_width_of long) n l) d → c ≡ filled (records_of l) d
-  target_read d f = f ∙ ap (λ (rs : List Record). filled rs d) (sym (form_records_lem l long n e))
+    pub target_read : {c : Columns} (d : Columns) → c ≡ filled (records_in (width_of y) n l) d → c ≡ filled (records_of l) d
+    target_read d f =
+        let w : width_of y ≡ duv_width_of long = omega (arith, layout_length long y h) in
+        f ∙ ap (λ (rs : List Record). filled rs d) (ap (λ (m : ℕ). records_in m n l) w ∙ sym (form_records_lem l long n e))
 
   pub again_read : Bytes l → file_of (duv_width_in l) (records_of l) ≡ l
   again_read b = written_read l b (form_readable l long n e).0

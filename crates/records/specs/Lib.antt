@@ -2,6 +2,7 @@ pub mod Bytes
 pub mod BytesLaws
 pub mod Fields
 pub mod FieldsLaws
+pub mod Layout
 pub mod Files
 pub mod FilesLaws
 pub mod Columns

@@ -27,12 +27,10 @@ impl Columns<'_> {
         ensures length { result ≡ size_of (held self.entry) }
         ensures unchanged { held self.exit ≡ held self.entry }
     {
-        let last = self.duv.len().min(self.steps.len().min(self.class.len()));
-        let middle = self
-            .place
-            .len()
-            .min(self.low.len().min(self.high.len().min(last)));
-        self.u.len().min(self.v.len().min(middle))
+        let last = self.steps.len().min(self.class.len());
+        let last = self.high.len().min(self.duv.len().min(last));
+        let last = self.place.len().min(self.low.len().min(last));
+        self.u.len().min(self.v.len().min(last))
     }
 
     // The record in a row.

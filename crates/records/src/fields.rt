@@ -2,15 +2,16 @@
 ghost use Rattle.std.specs.Prelude.{◌≡◌, ◌+◌, ◌≤◌, length, take, drop};
 ghost use Rattle.std.proofs.lemmas.List.Edits.{sets};
 ghost use Rattle.records.specs.Bytes.{number, as_signed};
-ghost use Rattle.records.specs.Fields.{duv_width, record_length_of, duv_width_of, record_bytes, front_record};
+ghost use Rattle.records.specs.Fields.{duv_width, record_length_of, record_bytes, front_record};
 ghost use Rattle.records.specs.FieldsLaws.{Narrow};
-ghost use Rattle.records.specs.Conditions.{Known};
+ghost use Rattle.records.specs.Layout.{width_of, length_of};
 
-use crate::bytes::{number_at, put_number, signed_of, unsigned_of};
+use crate::bytes::{bytes_at, put};
+use crate::layout::Layout;
 
 // A reading's u and v in micro and its answer; every number is as wide as its field in a file that is written.
 #[repr(C)]
-#[derive(Clone, Copy)]
+#[derive(Clone, Copy, PartialEq, Eq, Debug)]
 pub struct Record {
     pub u: u32,
     pub v: u32,
@@ -37,62 +38,46 @@ pub const ZERO_RECORD: Record = Record {
     class: 0,
 };
 
-// The bytes of a record that is written.
-pub(crate) const RECORD_LENGTH: usize = 20;
-
-// The bytes of a record without its Duv.
-const WITHOUT_DUV: usize = 16;
-
 // A record's bytes, from a place of the buffer on.
 pub(crate) fn put_record(r: Record, out: &mut [u8], at: usize)
     requires { at + record_length_of duv_width ≤ length out.old }
     ensures bytes { out.new ≡ sets out.old at (record_bytes duv_width r) }
     ensures narrow { Narrow duv_width r }
 {
-    let duv = unsigned_of(r.duv);
-    put_number(r.u, 4, out, at);
-    put_number(r.v, 4, out, at + 4);
-    put_number(r.place as u32, 2, out, at + 8);
-    put_number(r.low as u32, 2, out, at + 10);
-    put_number(r.high as u32, 2, out, at + 12);
-    put_number(duv, 4, out, at + 14);
-    put_number(r.steps as u32, 1, out, at + 18);
-    put_number(r.class as u32, 1, out, at + 19);
+    put(r.u.to_le_bytes(), out, at);
+    put(r.v.to_le_bytes(), out, at + 4);
+    put(r.place.to_le_bytes(), out, at + 8);
+    put(r.low.to_le_bytes(), out, at + 10);
+    put(r.high.to_le_bytes(), out, at + 12);
+    put(r.duv.to_le_bytes(), out, at + 14);
+    put([r.steps, r.class], out, at + 18);
 }
 
-// Duv in the bytes from a place on, as many as it has in a file; each number of bytes has a way of its own, which is faster.
-fn duv_at(bytes: &[u8], width: usize, at: usize) -> i32
-    requires { Known (record_length_of width) × (at + width ≤ length bytes.now) }
-    ensures { result ≡ as_signed width (number (take width (drop at bytes.now))) }
+// Duv in the bytes from a place on.
+fn duv_at(bytes: &[u8], layout: Layout, at: usize) -> i32
+    requires { at + width_of layout ≤ length bytes.now }
+    ensures { result ≡ as_signed (width_of layout) (number (take (width_of layout) (drop at bytes.now))) }
 {
-    if width == 2 {
-        return signed_of(number_at(bytes, 2, at), 2);
+    match layout {
+        Layout::Earlier => i32::from(i16::from_le_bytes(bytes_at(bytes, at))),
+        Layout::Written => i32::from_le_bytes(bytes_at(bytes, at)),
     }
-    signed_of(number_at(bytes, 4, at), 4)
 }
 
-// The record of this length in the bytes from a place on.
-pub(crate) fn record_from(bytes: &[u8], record_length: usize, at: usize) -> Record
-    requires { Known record_length × (at + record_length ≤ length bytes.now) }
-    ensures { result ≡ front_record (duv_width_of record_length) (drop at bytes.now) }
+// The record of this layout in the bytes from a place on.
+pub(crate) fn record_from(bytes: &[u8], layout: Layout, at: usize) -> Record
+    requires { at + length_of layout ≤ length bytes.now }
+    ensures { result ≡ front_record (width_of layout) (drop at bytes.now) }
 {
-    let width = record_length - WITHOUT_DUV;
-    let u = number_at(bytes, 4, at);
-    let v = number_at(bytes, 4, at + 4);
-    let place = number_at(bytes, 2, at + 8);
-    let low = number_at(bytes, 2, at + 10);
-    let high = number_at(bytes, 2, at + 12);
-    let duv = duv_at(bytes, width, at + 14);
-    let steps = number_at(bytes, 1, at + 14 + width);
-    let class = number_at(bytes, 1, at + 15 + width);
+    let end = at + layout.record_length();
     Record {
-        u: u,
-        v: v,
-        place: place as u16,
-        low: low as u16,
-        high: high as u16,
-        duv: duv,
-        steps: steps as u8,
-        class: class as u8,
+        u: u32::from_le_bytes(bytes_at(bytes, at)),
+        v: u32::from_le_bytes(bytes_at(bytes, at + 4)),
+        place: u16::from_le_bytes(bytes_at(bytes, at + 8)),
+        low: u16::from_le_bytes(bytes_at(bytes, at + 10)),
+        high: u16::from_le_bytes(bytes_at(bytes, at + 12)),
+        duv: duv_at(bytes, layout, at + 14),
+        steps: bytes[end - 2],
+        class: bytes[end - 1],
     }
 }

@@ -5,6 +5,7 @@ mod bytes;
 mod columns;
 mod fields;
 mod files;
+mod layout;
 mod transfer;
 
 pub use columns::{Columns, ColumnsMut};

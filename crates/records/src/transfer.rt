@@ -1,18 +1,19 @@
 // A list of records to a file, and back; and a file that is written record by record.
 ghost use Rattle.std.specs.Prelude.{◌≡◌, ◌*◌, ◌≤◌, length};
 ghost use Rattle.std.proofs.lemmas.List.Edits.{sets};
-ghost use Rattle.records.specs.Fields.{duv_width, record_length_of, duv_width_of};
+ghost use Rattle.records.specs.Fields.{duv_width, record_length_of};
 ghost use Rattle.records.specs.Files.{records_bytes, records_in};
 ghost use Rattle.records.specs.FilesLaws.{AllNarrow};
 ghost use Rattle.records.specs.Columns.{size_of, rows, list_of, filled};
 ghost use Rattle.records.specs.Slices.{held, held_mut, SameSlices};
 ghost use Rattle.records.specs.Transfer.{write_outcome, has_record_room, stored_into, closed_into, written, read_outcome, read_into};
-ghost use Rattle.records.specs.Conditions.{Known};
+ghost use Rattle.records.specs.Layout.{width_of, length_of};
 ghost use Rattle.records.specs.RoundTrips.{ReadsBack, FileOfRecords};
 
 use crate::columns::{Columns, ColumnsMut};
-use crate::fields::{RECORD_LENGTH, Record, put_record, record_from};
-use crate::files::{Form, MOST_WRITTEN, TRAILER_LENGTH, check_form, put_trailer};
+use crate::fields::{Record, put_record, record_from};
+use crate::files::{TRAILER_LENGTH, check_form, put_trailer};
+use crate::layout::{Layout, MOST_WRITTEN, RECORD_LENGTH};
 use refusal::Refusal;
 
 // What the writing of n records into so much room comes to.
@@ -75,15 +76,15 @@ pub fn write_records(columns: Columns, file: &mut [u8]) -> Result<usize, Refusal
     close_file(n, file)
 }
 
-// The records of a file of this form into the first rows.
-fn fill_rows(file: &[u8], form: Form, columns: &mut ColumnsMut)
-    requires { (form.count ≤ size_of (held_mut columns.old)) × Known form.record_length × (form.record_length * form.count ≤ length file.now) }
-    ensures target { held_mut columns.new ≡ filled (records_in (duv_width_of form.record_length) form.count file.now) (held_mut columns.old) }
+// The first n records of the file, which have this layout, into the first rows.
+fn fill_rows(file: &[u8], layout: Layout, n: usize, columns: &mut ColumnsMut)
+    requires { (n ≤ size_of (held_mut columns.old)) × (length_of layout * n ≤ length file.now) }
+    ensures target { held_mut columns.new ≡ filled (records_in (width_of layout) n file.now) (held_mut columns.old) }
     ensures same { SameSlices columns.new columns.old }
 {
-    for i in 0..form.count {
-        let r = record_from(file, form.record_length, form.record_length * i);
-        columns.store(i, r);
+    let record_length = layout.record_length();
+    for i in 0..n {
+        columns.store(i, record_from(file, layout, record_length * i));
     }
 }
 
@@ -96,9 +97,10 @@ pub fn read_records(file: &[u8], columns: &mut ColumnsMut) -> Result<usize, Refu
     ensures again { FileOfRecords result file.now }
 {
     let form = check_form(file)?;
+    let layout = Layout::try_from(form.record_length)?;
     if columns.len() < form.count {
         return Err(Refusal::NoRoom);
     }
-    fill_rows(file, form, columns);
+    fill_rows(file, layout, form.count, columns);
     Ok(form.count)
 }

@@ -1,24 +1,20 @@
-use Rattle.std.proofs.Common.{◌+◌, ◌-◌, refl, ◌∙◌, w32, arith}
+use Rattle.std.proofs.Common.{◌+◌, refl, ◌∙◌, w32, arith}
 use Rattle.arith.specs.SignedLaws.{back}
-use Rattle.records.proofs.Numbers.{field_fits, front_is}
+use Rattle.records.specs.Layout.{width_of}
+use Rattle.records.proofs.Numbers.{field_2, field_4, byte_field, front_is}
 use Rattle.records.proofs.fields.record_from.Goals as goal
-
-pub overflow_cast-result : goal.overflow_cast-result
-overflow_cast-result c = omega (arith, c.number_at-place.ensures, field_fits 2 (c.args.at + 8) c.args.bytes.now c.type_inv.bytes)
-
-pub overflow_cast-result-2 : goal.overflow_cast-result-2
-overflow_cast-result-2 c = omega (arith, c.number_at-low.ensures, field_fits 2 (c.args.at + 10) c.args.bytes.now c.type_inv.bytes)
-
-pub overflow_cast-result-3 : goal.overflow_cast-result-3
-overflow_cast-result-3 c = omega (arith, c.number_at-high.ensures, field_fits 2 (c.args.at + 12) c.args.bytes.now c.type_inv.bytes)
-
-pub overflow_cast-result-4 : goal.overflow_cast-result-4
-overflow_cast-result-4 c = omega (arith, c.number_at-steps.ensures, field_fits 1 (c.args.at + 14 + (c.args.record_length - 16)) c.args.bytes.now c.type_inv.bytes)
-
-pub overflow_cast-result-5 : goal.overflow_cast-result-5
-overflow_cast-result-5 c = omega (arith, c.number_at-class.ensures, field_fits 1 (c.args.at + 15 + (c.args.record_length - 16)) c.args.bytes.now c.type_inv.bytes)
 
 pub returns : goal.returns
 returns c =
-    front_is c.args.bytes.now (c.args.record_length - 16) c.args.at _ _ _ _ _ _ _ _ _ (back {w = w32} {z = c.duv_at-duv.result} (record { sfits = c.duv_at-duv.type_inv }) ∙ c.duv_at-duv.ensures)
-    c.number_at-u.ensures c.number_at-v.ensures c.number_at-place.ensures c.number_at-low.ensures c.number_at-high.ensures refl c.number_at-steps.ensures c.number_at-class.ensures
+    let l = c.args.bytes.now in
+    let at = c.args.at in
+    let w = width_of c.args.layout in
+    front_is l w at _ _ _ _ _ _ _ _ _ (back {w = w32} {z = c.duv_at.result} (record { sfits = c.duv_at.type_inv }) ∙ c.duv_at.ensures)
+    (field_4 at l c.from_le_bytes.ensures c.bytes_at.ensures (omega arith))
+    (field_4 (at + 4) l c.from_le_bytes-2.ensures c.bytes_at-2.ensures (omega arith))
+    (field_2 (at + 8) l c.from_le_bytes-3.ensures c.bytes_at-3.ensures (omega arith))
+    (field_2 (at + 10) l c.from_le_bytes-4.ensures c.bytes_at-4.ensures (omega arith))
+    (field_2 (at + 12) l c.from_le_bytes-5.ensures c.bytes_at-5.ensures (omega arith))
+    refl
+    (byte_field (at + 14 + w) _ l (omega (arith, c.record_length.ensures)) (omega arith))
+    (byte_field (at + 15 + w) _ l (omega (arith, c.record_length.ensures)) (omega arith))

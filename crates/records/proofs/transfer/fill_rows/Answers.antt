@@ -1,4 +1,5 @@
 use Rattle.std.proofs.Common.{arith, rules}
+use Rattle.records.specs.Layout.{width_of}
 use Rattle.records.specs.Columns.{Columns}
 use Rattle.records.specs.Slices.{held_mut}
 use Rattle.records.specs.ColumnsLaws.{Level, has_row, level_row}
@@ -14,10 +15,10 @@ abbrev now : At-loop-i → Columns
 now s = held_mut s.loop-i.columns
 
 level : (s : At-loop-i) → Level (now s) (given s)
-level s = level_read s.args.form.record_length s.args.file.now (given s) s.loop-i.i (now s) s.loop-i.invariant.0 (omega (arith, s.requires.0))
+level s = level_read (width_of s.args.layout) s.args.file.now (given s) s.loop-i.i (now s) s.loop-i.invariant.0 (omega (arith, s.requires.0))
 
 pub loop-i-init : goal.loop-i-init
-loop-i-init c = (none_read c.args.form.record_length c.args.file.now _, search rules)
+loop-i-init c = (none_read (width_of c.args.layout) c.args.file.now _, search rules)
 
 pub store-requires : goal.store-requires
 store-requires c =
@@ -26,4 +27,4 @@ store-requires c =
 
 pub loop-i-preserved : goal.loop-i-preserved
 loop-i-preserved c =
-    (next_read c.args.form.record_length c.args.file.now _ c.requires.1 c.loop-i.i _ _ c.record_from-r.result (omega (arith, c.loop-i-test.true, c.requires.0)) c.loop-i.invariant.0 c.record_from-r.ensures c.store.ensures.stored, search rules)
+    (next_read (width_of c.args.layout) c.args.file.now _ _ c.loop-i.i _ _ c.record_from.result c.record_length-record_length.ensures (omega (arith, c.loop-i-test.true, c.requires.0)) c.loop-i.invariant.0 c.record_from.ensures c.store.ensures.stored, search rules)
