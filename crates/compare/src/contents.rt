@@ -26,7 +26,7 @@ pub(crate) fn contents_of(r: Record) -> [i64; FIELDS]
 }
 
 // At how many places two lists of numbers differ.
-fn count_differing(first: &[i64], second: &[i64]) -> usize
+fn places_differing(first: &[i64], second: &[i64]) -> usize
     ensures { result ≡ count_by (λ (p : ℤ × ℤ). not (same p.0 p.1)) (zip first.now second.now) }
 {
     first.iter().zip(second).filter(|(x, y)| **x != **y).count()
@@ -36,5 +36,5 @@ fn count_differing(first: &[i64], second: &[i64]) -> usize
 pub(crate) fn count_fields(r: Record, s: Record) -> usize
     ensures { result ≡ length (of_record 0 r s) }
 {
-    count_differing(&contents_of(r), &contents_of(s))
+    places_differing(&contents_of(r), &contents_of(s))
 }
