@@ -1,5 +1,5 @@
 -- When a record matches: what the test says, that the record of an accepted answer does, and that one that does is what is kept of its answer.
-use Rattle.std.specs.Prelude.{◌≡◌, List, ℕ, ◌≤◌, eqb}
+use Rattle.std.specs.Prelude.{◌≡◌, List, ℕ, ◌≤◌, eqb, Ok, Some}
 use Rattle.std.proofs.Math.Path.{refl, ap}
 use Rattle.std.proofs.Common.{sym, ◌∙◌, arith}
 use Rattle.std.proofs.Math.Bool.{true}
@@ -7,10 +7,9 @@ use borrow.Author.Tests.{eqb-true, eq-eqb}
 use Rattle.arith.specs.Same.{same}
 use Rattle.arith.specs.SameLaws.{same_true, same_self}
 use Rattle.arith.specs.TestLaws.{and_both}
-use Rattle.reading.specs.Convert.{convert_micro}
+use Rattle.reading.specs.Convert.{Converted, point, convert_micro}
+use Rattle.reading.specs.declared.Chromaticity.{Chromaticity}
 use Rattle.reading.specs.RefusalLaws.{micro_point}
-use Rattle.reading.specs.declared.Converted.{Converted}
-use Rattle.reading.specs.declared.Converted.TheVariants.{Point}
 use Rattle.search.specs.Golden.{most_steps}
 use Rattle.cct.specs.Answers.{answer}
 use Rattle.cct.specs.Conditions.{Clear}
@@ -20,7 +19,6 @@ use Rattle.cct.specs.AgainLaws.{same_again}
 use Rattle.cct.specs.declared.Answer.{Answer}
 use Rattle.kept.specs.Keeping.{record_of, keep}
 use Rattle.kept.specs.KeepingLaws.{accepted_kept}
-use Rattle.kept.specs.declared.Kept.TheVariants as is
 use Rattle.records.specs.declared.fields.Record.{Record}
 use Rattle.salvage.specs.Salvaging.{has_fields, answer_to, matches}
 use Rattle.salvage.specs.Rules.{Match}
@@ -56,10 +54,10 @@ module _ (es : List ℕ) (r : Record) where
       rw (eq-eqb a.refusal 0 m.accepted, eq-eqb a.place r.place m.place, eq-eqb a.low r.low m.low, eq-eqb a.high r.high m.high, duv, eq-eqb a.steps r.steps m.steps, eq-eqb a.class r.class m.class) refl
 
   -- a record that matches is the one that is kept of its answer
-  pub matched_kept : Match es r → keep r.u r.v (answer_to es r) ≡ is.Kept r
+  pub matched_kept : Match es r → keep r.u r.v (answer_to es r) ≡ Some r
   matched_kept m =
       accepted_kept r.u r.v es (convert_micro r.u r.v) r.steps m.accepted
-      ∙ (λ i. is.Kept (record { u = r.u; v = r.v; place = m.place i; low = m.low i; high = m.high i; duv = m.duv i; steps = m.steps i; class = m.class i }))
+      ∙ (λ i. Some (record { u = r.u; v = r.v; place = m.place i; low = m.low i; high = m.high i; duv = m.duv i; steps = m.steps i; class = m.class i }))
 
 -- a record of more than 14 steps matches under no edges
 pub match_steps : (es : List ℕ) (r : Record) → Match es r → r.steps ≤ most_steps
@@ -82,13 +80,14 @@ module _ (es : List ℕ) (c : Converted) (u v : ℕ) (k : Clear es c u v) where
       }
 
 -- the record that was kept of an accepted answer, to whatever was converted to u and v and at whatever allowance, matches under the same edges
-pub saved_matches : (es : List ℕ) (c : Converted) (u v n : ℕ) → c ≡ Point u v → (answer es c n).refusal ≡ 0 → Match es (record_of u v (answer es c n))
+pub saved_matches : (es : List ℕ) (c : Converted) (u v n : ℕ) → c ≡ Ok (point u v) → (answer es c n).refusal ≡ 0 → Match es (record_of u v (answer es c n))
 saved_matches es c u v n p e = accepted_clear es c n e go
   where
     go : (x y : ℕ) → Clear es c x y → Match es (record_of u v (answer es c n))
     go x y k =
-        let f : x ≡ u = cc k.at.point in
-        let g : y ≡ v = cc k.at.point in
+        let same : point x y ≡ point u v = cc k.at.point in
+        let f : x ≡ u = ap (λ (q : Chromaticity). q.u) same in
+        let g : y ≡ v = ap (λ (q : Chromaticity). q.v) same in
         rw (f, g) at (clear_matches es c x y k n)
 
 -- so does the record of u and v that were given as whole numbers

@@ -1,8 +1,9 @@
 -- A salvage answers what its rule says, and every answer has its rule.
-use Rattle.std.specs.Prelude.{◌≡◌, Bool, true, false, List, ℕ, leb, length}
+use Rattle.std.specs.Prelude.{◌≡◌, Bool, true, false, List, ℕ, leb, length, Result}
 use Rattle.std.proofs.Math.Path.{refl}
 use Rattle.std.proofs.Common.{sym, subst, ◌∙◌}
 use borrow.Author.Tests.{leb-true, leb-false, le-leb, lt-leb}
+use Rattle.refusal.specs.declared.Refusal.{Refusal}
 use Rattle.classes.specs.Edges.{edges_valid}
 use Rattle.records.specs.Fields.{duv_width}
 use Rattle.records.specs.Files.{known_length, most_written, file_length}
@@ -19,7 +20,7 @@ module _ (es : List ℕ) (long : ℕ) (l : List ℕ) (file_room list_room : ℕ)
   dropped = length (dropped_in es long l)
 
   -- where a rule holds, its answer is given
-  pub rule_outcome : (o : Salvaged) → Rule es long l file_room list_room o → salvage_outcome es long l file_room list_room ≡ o
+  pub rule_outcome : (o : Result Salvaged Refusal) → Rule es long l file_room list_room o → salvage_outcome es long l file_room list_room ≡ o
   unfolding salvage_outcome
   rule_outcome o (bad_edges e) = rw e refl
   rule_outcome o (bad_length e h) = rw (e, known_false long h) refl
@@ -32,10 +33,10 @@ module _ (es : List ℕ) (long : ℕ) (l : List ℕ) (file_room list_room : ℕ)
       rw (f.taken.edges, known_true long f.taken.known, le-leb kept most_written f.few, le-leb (file_length duv_width kept) file_room h, le-leb dropped list_room g) refl
 
   -- and for every answer that is given its rule holds
-  pub outcome_rule : (o : Salvaged) → salvage_outcome es long l file_room list_room ≡ o → Rule es long l file_room list_room o
+  pub outcome_rule : (o : Result Salvaged Refusal) → salvage_outcome es long l file_room list_room ≡ o → Rule es long l file_room list_room o
   outcome_rule o e = go (edges_valid es) (known_length long) (leb kept most_written) refl refl refl
     where
-      given : {p : Salvaged} → Rule es long l file_room list_room p → Rule es long l file_room list_room o
+      given : {p : Result Salvaged Refusal} → Rule es long l file_room list_room p → Rule es long l file_room list_room o
       given {p} k = subst (Rule es long l file_room list_room) (sym (rule_outcome p k) ∙ e) k
 
       rooms : Few es long l → (a b : Bool) → leb (file_length duv_width kept) file_room ≡ a → leb dropped list_room ≡ b → Rule es long l file_room list_room o

@@ -1,6 +1,6 @@
 -- Laws of a salvage: that every record and every byte is counted, which numbers are listed, that the new file is read to the records kept, what
 -- is kept of a file that was cut, and that salvaging again changes nothing.
-use Rattle.std.specs.Prelude.{◌≡◌, refl, Bool, true, false, List, [], ℕ, suc, ◌+◌, ◌-◌, ◌*◌, ◌/◌, ◌≤◌, ◌<◌, length, take}
+use Rattle.std.specs.Prelude.{◌≡◌, refl, Bool, true, false, List, [], ℕ, suc, ◌+◌, ◌-◌, ◌*◌, ◌/◌, ◌≤◌, ◌<◌, length, take, Ok}
 use Rattle.std.proofs.Common.{sym, ◌∙◌, arith, length-take, get_or-take}
 use Rattle.std.proofs.Math.Path.{ap}
 use Rattle.std.proofs.lemmas.Bool.{false≢true}
@@ -19,11 +19,10 @@ use Rattle.records.specs.RoundTripLaws.{read_written, known_narrow}
 use Rattle.records.specs.declared.fields.Record.{Record}
 use Rattle.salvage.specs.Passing.{passing, Listed}
 use Rattle.salvage.specs.PassingLaws.{all_counted, passing_passes, each_passing, each_failing, listed_fails, fails_listed, failing_rise}
-use Rattle.salvage.specs.Salvaging.{matches, kept_of, dropped_of, kept_in, dropped_in, left_over}
+use Rattle.salvage.specs.Salvaging.{matches, kept_of, dropped_of, kept_in, dropped_in, left_over, counts}
 use Rattle.salvage.specs.Rules.{Match, AllMatch, Unmatched, Few, salvaged, Again}
 use Rattle.salvage.specs.MatchLaws.{match_true, true_match}
 use Rattle.salvage.specs.RuleLaws.{rule_outcome}
-use Rattle.salvage.specs.declared.Salvaged.TheVariants.{Done}
 
 -- every record is either kept or dropped; where its numbers begin is left to the definition, here and below
 pub kept_or_dropped : (es : List ℕ) (rs : List Record) → length (kept_of es rs) + length (dropped_of es rs) ≡ length rs
@@ -151,7 +150,7 @@ again es long l old numbers f b room =
     record {
       outcome =
           rule_outcome es (record_length_of duv_width) file (length old) (length numbers) _ (salvaged few (omega (arith, count, room)) (omega (arith, none)))
-          ∙ (λ i. Done (count i) (none i) (again_left es long l known b i));
+          ∙ (λ i. Ok (counts (count i) (none i) (again_left es long l known b i)));
       target = ap (λ (rs : List Record). over (file_of duv_width rs) old) kept;
       list = ap (λ (ns : List ℕ). over ns numbers) dropped;
     }

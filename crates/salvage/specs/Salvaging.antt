@@ -1,6 +1,7 @@
 -- Which records of a file without a trailer are kept, and what a salvage answers and writes (document 02, No. 9). Definitions only.
-use Rattle.std.specs.Prelude.{Bool, ◌&&◌, cond, List, ℕ, ◌%◌, leb, eqb, length}
+use Rattle.std.specs.Prelude.{Bool, ◌&&◌, cond, List, ℕ, ◌%◌, leb, eqb, length, Result, Ok, Err}
 use Rattle.arith.specs.Same.{same}
+use Rattle.refusal.specs.declared.Refusal.{Refusal}
 use Rattle.refusal.specs.declared.Refusal.TheVariants.{BadEdges, TooManyRecords, NoRoom, BadRecordLength}
 use Rattle.reading.specs.Convert.{convert_micro}
 use Rattle.classes.specs.Edges.{edges_valid}
@@ -12,7 +13,6 @@ use Rattle.records.specs.Columns.{over}
 use Rattle.records.specs.declared.fields.Record.{Record}
 use Rattle.salvage.specs.Passing.{passing, failing}
 use Rattle.salvage.specs.declared.Salvaged.{Salvaged}
-use Rattle.salvage.specs.declared.Salvaged.TheVariants.{Refused, Done}
 
 -- an answer is accepted, and the record's fields are its fields
 unfoldable pub has_fields : Record → Answer → Bool
@@ -51,24 +51,28 @@ left_over long l = length l % long
 abbrev pub has_room : (k d file_room list_room : ℕ) → Bool
 has_room k d file_room list_room = leb (file_length duv_width k) file_room && leb d list_room
 
+-- so many records kept and dropped, and so many bytes left over
+abbrev pub counts : (kept dropped leftover : ℕ) → Salvaged
+counts k d m = record { kept = k; dropped = d; leftover = m }
+
 -- the answer for edges, a record length, the bytes, and targets with so much room: refusals 1, 14, 11 and 12, in this order, or the counts
-unfoldable pub salvage_outcome : (es : List ℕ) (long : ℕ) → List ℕ → (file_room list_room : ℕ) → Salvaged
+unfoldable pub salvage_outcome : (es : List ℕ) (long : ℕ) → List ℕ → (file_room list_room : ℕ) → Result Salvaged Refusal
 salvage_outcome es long l file_room list_room =
     let k : ℕ = length (kept_in es long l) in
     let d : ℕ = length (dropped_in es long l) in
     cond (edges_valid es)
     (cond (known_length long)
     (cond (leb k most_written)
-    (cond (has_room k d file_room list_room) (Done k d (left_over long l)) (Refused NoRoom))
-    (Refused TooManyRecords))
-    (Refused BadRecordLength))
-    (Refused BadEdges)
+    (cond (has_room k d file_room list_room) (Ok (counts k d (left_over long l))) (Err NoRoom))
+    (Err TooManyRecords))
+    (Err BadRecordLength))
+    (Err BadEdges)
 
 -- the targets: the file of the kept records, the numbers of the dropped ones, and beyond them what each held; a refusal leaves both
-abbrev pub file_into : Salvaged → (es : List ℕ) (long : ℕ) → (bytes old : List ℕ) → List ℕ
-file_into (Refused r) es long l old = old
-file_into (Done k d m) es long l old = over (file_of duv_width (kept_in es long l)) old
+abbrev pub file_into : Result Salvaged Refusal → (es : List ℕ) (long : ℕ) → (bytes old : List ℕ) → List ℕ
+file_into (Err r) es long l old = old
+file_into (Ok s) es long l old = over (file_of duv_width (kept_in es long l)) old
 
-abbrev pub dropped_into : Salvaged → (es : List ℕ) (long : ℕ) → (bytes old : List ℕ) → List ℕ
-dropped_into (Refused r) es long l old = old
-dropped_into (Done k d m) es long l old = over (dropped_in es long l) old
+abbrev pub dropped_into : Result Salvaged Refusal → (es : List ℕ) (long : ℕ) → (bytes old : List ℕ) → List ℕ
+dropped_into (Err r) es long l old = old
+dropped_into (Ok s) es long l old = over (dropped_in es long l) old
