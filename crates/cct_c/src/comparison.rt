@@ -1,9 +1,9 @@
 // The comparison of two record files through the C ABI.
 ghost use Rattle.std.specs.Prelude.{◌≡◌, length};
 ghost use Rattle.compare.specs.Comparison.{compare_outcome, listed_into};
-ghost use Rattle.cct_c.specs.PlainComparison.{refused_file, plain_compared};
+ghost use Rattle.cct_c.specs.PlainComparison.{file_of, plain_compared};
 
-use compare::Compared;
+use compare::NotCompared;
 use refusal::Refusal;
 
 // What a comparison came to: how many differences are listed, or a count of 0, the number of the refusal, and the file that is
@@ -16,28 +16,33 @@ pub struct PlainCompared {
     pub file: u8,
 }
 
-fn refused_file(file: u8, refusal: Refusal) -> PlainCompared
-    ensures { result ≡ refused_file file refusal }
+// Which file is refused: 1 or 2, or 0 where it is neither.
+fn file_of(error: NotCompared) -> u8
+    ensures { result ≡ file_of error }
 {
-    PlainCompared {
-        count: 0,
-        refusal: refusal.number(),
-        file: file,
+    match error {
+        NotCompared::First(_) => 1,
+        NotCompared::Second(_) => 2,
+        NotCompared::NoRoom => 0,
     }
 }
 
-fn plain_compared(compared: Compared) -> PlainCompared
-    ensures { result ≡ plain_compared compared }
-{
-    match compared {
-        Compared::FirstRefused(refusal) => refused_file(1, refusal),
-        Compared::SecondRefused(refusal) => refused_file(2, refusal),
-        Compared::Refused(refusal) => refused_file(0, refusal),
-        Compared::Listed(n) => PlainCompared {
-            count: n,
-            refusal: 0,
-            file: 0,
-        },
+impl From<Result<usize, NotCompared>> for PlainCompared {
+    ghost from_gives = { λ c p. p ≡ plain_compared c };
+
+    fn from(compared: Result<usize, NotCompared>) -> PlainCompared {
+        match compared {
+            Ok(n) => PlainCompared {
+                count: n,
+                refusal: 0,
+                file: 0,
+            },
+            Err(error) => PlainCompared {
+                count: 0,
+                refusal: Refusal::from(error).into(),
+                file: file_of(error),
+            },
+        }
     }
 }
 
@@ -48,5 +53,5 @@ pub extern "C" fn ck_compare_files(first: &[u8], second: &[u8], target: &mut [i6
     ensures target { target.new ≡ listed_into (compare_outcome first.now second.now (length target.old)) first.now second.now target.old }
     ensures unchanged { (first.exit.now ≡ first.entry.now) × (second.exit.now ≡ second.entry.now) }
 {
-    plain_compared(compare::compare_files(first, second, target))
+    compare::compare_files(first, second, target).into()
 }

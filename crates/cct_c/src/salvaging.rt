@@ -4,6 +4,7 @@ ghost use Rattle.salvage.specs.Salvaging.{salvage_outcome, file_into, dropped_in
 ghost use Rattle.salvage.specs.Rules.{KeptBack};
 ghost use Rattle.cct_c.specs.PlainSalvage.{plain_salvaged};
 
+use refusal::Refusal;
 use salvage::Salvaged;
 
 // What a salvage came to: how many records are kept, how many are dropped and how many bytes are left over; or the number of the
@@ -17,22 +18,24 @@ pub struct PlainSalvaged {
     pub refusal: u8,
 }
 
-fn plain_salvaged(salvaged: Salvaged) -> PlainSalvaged
-    ensures { result ≡ plain_salvaged salvaged }
-{
-    match salvaged {
-        Salvaged::Refused(refusal) => PlainSalvaged {
-            kept: 0,
-            dropped: 0,
-            leftover: 0,
-            refusal: refusal.number(),
-        },
-        Salvaged::Done(kept, dropped, leftover) => PlainSalvaged {
-            kept: kept,
-            dropped: dropped,
-            leftover: leftover,
-            refusal: 0,
-        },
+impl From<Result<Salvaged, Refusal>> for PlainSalvaged {
+    ghost from_gives = { λ s p. p ≡ plain_salvaged s };
+
+    fn from(salvaged: Result<Salvaged, Refusal>) -> PlainSalvaged {
+        match salvaged {
+            Ok(counts) => PlainSalvaged {
+                kept: counts.kept,
+                dropped: counts.dropped,
+                leftover: counts.leftover,
+                refusal: 0,
+            },
+            Err(refusal) => PlainSalvaged {
+                kept: 0,
+                dropped: 0,
+                leftover: 0,
+                refusal: refusal.into(),
+            },
+        }
     }
 }
 
@@ -51,5 +54,5 @@ pub extern "C" fn ck_salvage(
     ensures unchanged { (bytes.exit.now ≡ bytes.entry.now) × (edges.exit.now ≡ edges.entry.now) }
     ensures back { KeptBack (salvage_outcome edges.now record_length bytes.now (length file.old) (length dropped.old)) edges.now record_length bytes.now }
 {
-    plain_salvaged(salvage::salvage(bytes, record_length, edges, file, dropped))
+    salvage::salvage(bytes, record_length, edges, file, dropped).into()
 }
