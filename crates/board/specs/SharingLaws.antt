@@ -1,6 +1,7 @@
 -- Dispatchers who share a board can rely on it: the laws.
 use Rattle.std.specs.Prelude.{◌≡◌, refl, Result, Ok, Err, List, [], ◌∷◌, ◌++◌, ℕ, zero, suc, ◌+◌, length, take, drop, replicate}
-use Rattle.std.proofs.Common.{ap, sym, ◌∙◌, arith, drop_at}
+use Rattle.std.proofs.Common.{ap, sym, ◌∙◌, arith}
+use Rattle.std.proofs.lemmas.Slice.{drop-append-drop}
 use Rattle.std.proofs.Math.Seq.{take-append_seam}
 use Rattle.records.specs.declared.fields.Record.{Record}
 use Rattle.records.specs.Columns.{over}
@@ -28,7 +29,7 @@ front (suc n) (x ∷ t) [] e = absurd (omega arith)
 front (suc n) (x ∷ t) (y ∷ l) e = ap (λ (z : List _). x ∷ z) (front n t l (omega arith))
 
 over_over : {A : Type 0} (s t l : List A) → length t ≡ length s → over t (over s l) ≡ over t l
-over_over s t l e = ap (λ (z : List _). t ++ z) (drop_at s (drop (length s) l) (length t) (sym e) ∙ ap (λ (n : ℕ). drop n l) (sym e))
+over_over s t l e = ap (λ (z : List _). t ++ z) (drop-append-drop (length s) l s (length t) (omega arith) refl)
 
 table_with : (b : Board) (t : List Lot) → length t ≡ length (table_of b) → table_of (with_table b t) ≡ t
 table_with b t e = front b.count t b.lots e

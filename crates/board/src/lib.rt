@@ -225,6 +225,7 @@ impl Board {
     }
 
     // Stores a job at a place of the party's, or leaves the board as it is.
+    #[tactic(auto, using(crate::specs::SharingLaws::with_own))]
     fn store(&mut self, party: Party, place: usize, stamp: u16, job: u32) -> Result<Told, Denied>
         ensures told { result ≡ (handed self.old (assigns party place stamp job)).told }
         ensures board { self.new ≡ (handed self.old (assigns party place stamp job)).board }
@@ -245,6 +246,7 @@ impl Board {
     }
 
     // Reads the lot at a place of the party's.
+    #[tactic(auto, using(crate::specs::SharingLaws::with_own))]
     pub fn read(self, party: Party, place: usize) -> Answered
         ensures { result ≡ handed self (reads party place) }
     {

@@ -1,4 +1,4 @@
--- `store`: where the job is refused the board is as it was, and otherwise the table has it at its place.
+-- `store`: where the job is stored the board has it in its slot, and the table at its place.
 use Rattle.std.proofs.Common.{◌≡◌, ◌++◌, ◌+◌, ◌<◌, ℕ, List, Result, Ok, Err, Bool, true, false, cond, length, drop, set, refl, ap, sym, ◌∙◌, rules, length-set, ltb-true, ltb}
 use Rattle.std.proofs.Math.Seq.{set-append_left}
 use Rattle.arith.specs.TestLaws.{and_both}
@@ -9,10 +9,10 @@ use Rattle.board.specs.declared.Board.{Board}
 use Rattle.board.specs.declared.Told.{Told}
 use Rattle.board.specs.declared.Told.TheVariants.{Stored}
 use Rattle.board.specs.declared.Denied.{Denied}
-use Rattle.board.specs.declared.Denied.TheVariants.{NoSuchPlace, StaleStamp}
+use Rattle.board.specs.declared.Denied.TheVariants.{NoSuchPlace}
 use Rattle.board.specs.Table.{with_job, lot_at, assigns, is_stored, put, reaches, found}
 use Rattle.board.specs.Boards.{table_of, with_table, owns, handed}
-use Rattle.board.specs.SharingLaws.{with_own, refused_board}
+use Rattle.board.specs.SharingLaws.{with_own}
 use Rattle.board.proofs.Board.store.Goals as goal
 
 -- a lot that is found is the table's, at a place that the party reaches
@@ -38,11 +38,6 @@ stored b w p stamp job {l} e s d =
     ∙ ap (λ (z : List Lot). record b { lots = z }) (slot_set b p (with_job l job) f.0)
     ∙ ap (λ (z : Lot). with_table b (set (table_of b) p (with_job z job))) f.1
     ∙ ap (λ (z : Result Told Denied). with_table b (put (is_stored z) (table_of b) p job)) (sym d)
-
-pub returns-then-stamp-lot-clause-board : goal.returns-then-stamp-lot-clause-board
-returns-then-stamp-lot-clause-board c =
-    let a = c.args in
-    sym (refused_board a.self.now (assigns a.party a.place a.stamp a.job) (StaleStamp c.in_ok-lot.lot.stamp) (search rules))
 
 pub returns-clause-board : goal.returns-clause-board
 returns-clause-board c =
