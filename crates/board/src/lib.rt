@@ -40,7 +40,7 @@ impl TryFrom<u8> for Party {
 
 // A record with what is decided about it.
 #[repr(C)]
-#[derive(Clone, Copy)]
+#[derive(Clone, Copy, PartialEq, Eq, Debug)]
 pub struct Lot {
     pub record: Record,
     // The job that it is assigned to, or 0 for none.
@@ -71,7 +71,7 @@ pub const ZERO_LOT: Lot = Lot {
 
 // The lots in the order of their places, from 0: ours, then the partner's; the slots beyond them are zero.
 #[repr(C)]
-#[derive(Clone, Copy)]
+#[derive(Clone, Copy, PartialEq, Eq, Debug)]
 pub struct Board {
     // How many lots are ours, and how many there are.
     ours: usize,
@@ -80,7 +80,7 @@ pub struct Board {
 }
 
 // What a call is told.
-#[derive(Clone, Copy)]
+#[derive(Clone, Copy, PartialEq, Eq, Debug)]
 pub enum Told {
     // The board is loaded.
     Loaded,
@@ -129,7 +129,7 @@ impl Denied {
 }
 
 // The board after a call, and what the call is told or why it is refused.
-#[derive(Clone, Copy)]
+#[derive(Clone, Copy, PartialEq, Eq, Debug)]
 pub struct Answered {
     pub board: Board,
     pub told: Result<Told, Denied>,
