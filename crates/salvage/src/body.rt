@@ -96,7 +96,7 @@ impl<'a> Body<'a> {
     }
 
     // Writes the file of those that match, and lists the numbers of the others.
-    pub(crate) fn salvage(self, file: &mut [u8], dropped: &mut [u64]) -> Result<Salvaged, Refusal>
+    pub(crate) fn write(self, file: &mut [u8], dropped: &mut [u64]) -> Result<Salvaged, Refusal>
         ensures outcome { result ≡ salvage_outcome self.entry.edges.now self.entry.record_length self.entry.bytes.now (length file.old) (length dropped.old) }
         ensures file { file.new ≡ file_into result self.entry.edges.now self.entry.record_length self.entry.bytes.now file.old }
         ensures list { dropped.new ≡ dropped_into result self.entry.edges.now self.entry.record_length self.entry.bytes.now dropped.old }

@@ -47,5 +47,5 @@ pub fn salvage(
         record_length,
         edges,
     };
-    body.salvage(file, dropped)
+    body.write(file, dropped)
 }

@@ -6,4 +6,4 @@ use Rattle.salvage.proofs.salvage.Goals as goal
 pub returns-clause-back : goal.returns-clause-back
 returns-clause-back c =
     let a = c.args in
-    told_back a.edges.now a.record_length a.bytes.now (length a.file.now) (length a.dropped.now) _ (sym c.salvage.ensures.outcome) (λ i. (c.type_inv.bytes i).fits)
+    told_back a.edges.now a.record_length a.bytes.now (length a.file.now) (length a.dropped.now) _ (sym c.write.ensures.outcome) (λ i. (c.type_inv.bytes i).fits)

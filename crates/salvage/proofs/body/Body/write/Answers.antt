@@ -1,9 +1,9 @@
--- `salvage` meets its contract: the room is checked, then the records are sorted and the file is closed, by the laws of Whole.
+-- `write` meets its contract: the room is checked, then the records are sorted and the file is closed, by the laws of Whole.
 use Rattle.std.proofs.Common.{sym, length, arith}
 use Rattle.std.proofs.lemmas.Result.{err_from_is_err_and}
 use Rattle.records.specs.RefusalLaws.{true_known}
 use Rattle.salvage.proofs.Whole.{no_room, sort_room, dropped_count, counts_told, file_told, list_told}
-use Rattle.salvage.proofs.body.Body.salvage.Goals as goal
+use Rattle.salvage.proofs.body.Body.write.Goals as goal
 
 pub returns-in_err-check_targets-clause-outcome : goal.returns-in_err-check_targets-clause-outcome
 returns-in_err-check_targets-clause-outcome c =
