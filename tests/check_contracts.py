@@ -11,7 +11,8 @@ end, or of what `&` lends as unchanged. Of those of an entry crate also: each pa
 below with its reason and must still be needed; a promise that is no equation, and a `requires` of an entry crate, must be, word for
 word, the one that stands here. Of the functions in WITHOUT_MULTIPLY, and of all that they call: no body has a `*`, a `/` or a `%`,
 and all that is called is of their own crate, by its plain name. Of those in WITHOUT_DIVISION: no body has a `/` or a `%`, in whatever
-crate of ours, and nothing else is called."""
+crate of ours, and nothing else is called but the methods of CALLS_ONLY, and what stands beside the function as left to others. A
+function that is handed on by its path counts as called."""
 
 import re
 import sys
@@ -35,8 +36,8 @@ REQUIRES = {
     "table::ReadyTable::nearest": "an admitted reading with its distance, as admit hands it over",
 }
 
-# Functions of entry crates with a `requires`: all that they require, word for word, and why.
-ENTRY_REQUIRES = {"nearest::coarse_converted": ("table.now ≡ ready_table", "the table is lent, so that a caller makes it once")}
+# Functions of entry crates with a `requires`, of which there are none: all that they require, word for word, and why.
+ENTRY_REQUIRES = {}
 
 # Promises that are no equation: whether instead of the result's equation or beside it, the promise, and why it stands.
 INSTEAD, BESIDE = "instead", "beside"
@@ -65,11 +66,15 @@ PROMISES = {
 # Functions that may not multiply or divide, nor may what they call, and why.
 WITHOUT_MULTIPLY = {"arith::integer_root": "it also runs where numbers of 64 bits cannot be multiplied"}
 
-# Functions that may not divide, nor may what they call, and why.
+# Functions that may not divide, nor may what they call, but for the methods left to others, and why.
 WITHOUT_DIVISION = {
-    "nearest::coarse_converted": "a panel is not to divide for each point of the locus",
-    "nearest::coarse_micro": "a panel that has whole numbers need not divide at all",
+    "nearest::coarse_answer": ((".convert",), "a panel is not to divide for each point of the locus; how a reading is converted is its source's"),
+    "nearest::coarse_with": ((".convert",), "as nearest::coarse_answer"),
+    "reading::Micro::convert": ((), "a panel that has whole numbers need not divide at all"),
 }
+
+# Methods of the toolchain's library that compare, or call what they are handed, and do nothing else with numbers.
+CALLS_ONLY = (".clamp", ".max", ".min", ".unwrap", ".unwrap_or_else")
 
 EQUATION = re.compile(r"^result ≡ (?P<value>.+)$")
 # What `x` lends by a reference, and what the columns hold that are lent as a value, or whose slices are lent to be written.
@@ -204,9 +209,10 @@ MEANING = {
     "silent": "no promise speaks of the parameter `%s`",
 }
 
-# A path before a bracket, with the point where it is a method's; the words that may stand there and call nothing.
-CALL = re.compile(r"(?:(?<!\.)\. ?)?(?:\w+ ?:: ?)*\w+(?= ?\()")
-NO_CALLS = ("break", "if", "in", "match", "return", "while")
+# A path before a bracket, with the point where it is a method's, or one that is handed on; the words that may stand there, of which three
+# make a value and the others stand in control flow.
+CALL = re.compile(r"(?:(?<!\.)\. ?)?(?:\w+ ?:: ?)*\w+(?= ?\()|(?:\b\w+ ?:: ?)+[a-z_]\w*\b(?! ?(?:::|[(!]))")
+NO_CALLS = ("Err", "Ok", "Some", "break", "if", "in", "match", "return", "while")
 # What could call a function without its name before a bracket: f::<>(..), (f)(..), [f][0](..), {f}(..) and f!(..).
 NOT_PLAIN = r"::(?= ?<)|[)\]}](?= ?\()|(?<=\w)!(?= ?\()"
 # A case of an enum, which calls nothing.
@@ -232,15 +238,19 @@ DIVIDE = Ban("divide", re.compile(r"[/%]|" + NOT_PLAIN), False)
 
 
 def places_of(crates, crate, call, ban):
-    """Where the functions are that a call in a crate may come to, as crate and name: a method's may be of any type."""
+    """Where the functions are that a call in a crate may come to, as crate and name: a method's may be of any type, and a type's of any crate."""
     if call.startswith(".") and not ban.within:
         return [(other, f.name) for other in crates for f in crates[other] if f.name.endswith("::" + call[1:])] or [(crate, call)]
     other, _, name = call.partition("::")
-    return [(other, name) if other in crates and not ban.within else (crate, call)]
+    if other in crates and not ban.within:
+        return [(other, name)]
+    owners = [owner for owner in (crates if name and not ban.within else ()) if any(f.name == call for f in crates[owner])]
+    return [(owner, call) for owner in owners] or [(crate, call)]
 
 
-def operation_faults(crates, crate, start, ban):
-    """Where a function, or what it calls, does what it may not, or calls what is not there, given the functions of the crates."""
+def operation_faults(crates, crate, start, ban, left=()):
+    """Where a function, or what it calls but for what is left to others, does what it may not, or calls what is not there, given the
+    functions of the crates."""
     places = [(crate, start)]
     for owner, name in places:  # they become more as calls are found
         bodies = [function.body for function in crates.get(owner, ()) if function.name == name]
@@ -248,15 +258,15 @@ def operation_faults(crates, crate, start, ban):
             yield "it comes to `%s`, which is no function of %s" % (name, "its crate" if ban.within else "ours")
         for sign in sorted(set(ban.signs.findall(" ".join(bodies)))):
             yield "it may not %s, or call otherwise than by a name, and `%s` has a `%s`" % (ban.words, name, sign)
-        found = (place for body in bodies for call in calls(body) for place in places_of(crates, owner, call, ban))
+        found = (place for body in bodies for call in calls(body) if call not in left for place in places_of(crates, owner, call, ban))
         places += dict.fromkeys(place for place in found if place not in places)
 
 
-def banned_faults(crates, names, ban):
-    """Every fault of the functions that may not do what is banned."""
+def banned_faults(crates, names, ban, left={}):
+    """Every fault of the functions that may not do what is banned, given the calls that each leaves to others."""
     for name in names:
         crate, _, function = name.partition("::")
-        yield from ("%s: %s" % (name, fault) for fault in operation_faults(crates, crate, function, ban))
+        yield from ("%s: %s" % (name, fault) for fault in operation_faults(crates, crate, function, ban, left.get(name, ())))
 
 
 # --- Self-test --------------------------------------------------------------------------------------------------------
@@ -436,6 +446,19 @@ pub fn read(u: u32, v: u32) -> Coarse {
         Admission::Near(m, d) => accepted(Admission::Near(m, d)),
         Admission::Refused(refusal) => refusal.number(),
     }
+    .or(source.convert()).map(Coarse::made)
+}
+
+impl Coarse {
+    fn made(n: u32) -> Coarse {
+        u8::from(n + 3)
+    }
+}
+
+impl Source for Reading {
+    fn convert(self) -> Coarse {
+        self / 2
+    }
 }
 
 fn accepted(admission: Admission) -> Coarse {
@@ -456,8 +479,19 @@ impl Refusal {
         5
     }
 }
+
+impl From<Refusal> for u8 {
+    fn from(refusal: Refusal) -> u8 {
+        6
+    }
+}
 """
+LEFT = {"good::read": (".convert", ".map", ".or")}
 DIVISION_FAULTS = (
+    ("source.convert()", "source.converted()", "comes to `.converted`"),
+    ("(n + 3)", "(n / 3)", "`Coarse::made` has a `/`"),
+    ("        6\n", "        12 / 2\n", "`u8::from` has a `/`"),
+    ("Coarse::made)", "Coarse::unmade)", "comes to `Coarse::unmade`"),
     ("u * 2", "u / 2", "`read` has a `/`"),
     ("    4\n", "    8 % 5\n", "`accepted` has a `%`"),
     ("u * u", "u / u", "`squared` has a `/`"),
@@ -484,7 +518,7 @@ def self_test_of_operations():
     """Each multiply, division and call of what is not there is found where it is put in, and none where it is not."""
     require_found(PLAIN, lambda text: list(banned_faults({"good": functions(text)}, ["good::root"], MULTIPLY)), OPERATION_FAULTS)
     crates = lambda text: dict(zip(("good", "other"), map(functions, text.split("---"))))
-    require_found(UNDIVIDED + "---" + OTHER, lambda text: list(banned_faults(crates(text), ["good::read"], DIVIDE)), DIVISION_FAULTS)
+    require_found(UNDIVIDED + "---" + OTHER, lambda text: list(banned_faults(crates(text), ["good::read"], DIVIDE, LEFT)), DIVISION_FAULTS)
 
 
 def check(text, entry=(), requires={}, promises={}, entry_requires={}):
@@ -533,7 +567,8 @@ def main():
     crates = {crate: functions_of(crate) for crate in library_crates()}
     traced = named_functions(TRACE.read_text(encoding="utf-8"))
     found = faults_of(crates, Rules(ENTRY_CRATES, REQUIRES, ENTRY_REQUIRES, PROMISES, traced))
-    found += [*banned_faults(crates, WITHOUT_MULTIPLY, MULTIPLY), *banned_faults(crates, WITHOUT_DIVISION, DIVIDE)]
+    left = {name: others + CALLS_ONLY for name, (others, _) in WITHOUT_DIVISION.items()}
+    found += [*banned_faults(crates, WITHOUT_MULTIPLY, MULTIPLY), *banned_faults(crates, WITHOUT_DIVISION, DIVIDE, left)]
     for line in found:
         print("check_contracts: " + line, file=sys.stderr)
     if found:
