@@ -5,13 +5,13 @@
 
     `cct/Answers#answer`   the name that Answers.antt of crates/cct defines: in specs, else in specs/Code, else in proofs
     `cct/Answers`          that file
-    `cct::answer_micro`    the function, `cct::Type::name` a method, `cct::Type` a type or constant of crates/cct/src
-    `cct@answer_micro`     the function's proof: what stands in the folder of its name in crates/cct/proofs, and where there is none
+    `cct::whole_answer`    the function, `cct::Type::name` a method, `cct::Type` a type or constant of crates/cct/src
+    `cct@whole_answer`     the function's proof: what stands in the folder of its name in crates/cct/proofs, and where there is none
                            what the check finds by itself for a function with a promise, in a crate that has it try its tactics
     `cct!fixed_place`      the must-fail edit crates/cct/must-fail/fixed_place.edit
     `tests/fuzz`           a path
 
-Several names after one mark are separated by commas: `cct::answer_micro, answer_reading`. Outside backticks `vectors uv, xy`
+Several names after one mark are separated by commas: `cct::whole_answer, float_answer`. Outside backticks `vectors uv, xy`
 stands for lines of crates/vectors/stdin by their first word, and there must be some."""
 
 import re
@@ -91,14 +91,20 @@ def item_fault(crate, mark, name):
 
 def proof_fault(crate, name, tactics=TACTICS):
     """What is missing of the proof of a function that is there."""
+    owner, _, last = name.rpartition("::")
     files = (path for file in PROOF_FILES for path in (CRATES / crate / "proofs").rglob(file))
-    folders = {path.parent for path in files if path.parent.name.lstrip("+") == name.split("::")[-1]}
+    folders = {path.parent for path in files if path.parent.name.lstrip("+") == last and is_folder_of(owner, path.parent.parent.name)}
     if len(folders) > 1:
         return "%d proofs of that name" % len(folders)
-    promises = any(function.ensures for function in functions_of(crate) if function.name == name)
+    promises = any(function.ensures or function.of_trait for function in functions_of(crate) if function.name == name)
     roots = (CRATES / crate / "src" / file for file in ("lib.rt", "main.rt"))
     by_itself = promises and any(tactics.search(root.read_text(encoding="utf-8")) for root in roots if root.is_file())
     return None if folders or by_itself else "no proof of that name, and nothing that is proved without one"
+
+
+def is_folder_of(owner, folder):
+    """Whether a folder of proofs can be that of a type, also of a trait's impl for it, which it then begins."""
+    return folder.casefold().startswith(owner.rpartition("::")[-1].casefold())
 
 
 def parts(token):
@@ -206,10 +212,14 @@ def self_test():
     renamed = SAMPLE.replace("is-1 :", "was-1 :")
     assert "is-1" in renamed and defined_names(renamed) == expected - {"is-1"} | {"was-1"}
     # a proof that is found by itself, one with files, and none: a function that is missing, a type, one that promises nothing
-    assert item_fault("arith", "@", "lesser") is None and item_fault("arith", "@", "root_by_bits") is None
-    for crate, name in (("arith", "greater"), ("board", "Board"), ("cradlekeel", "write_out")):
+    assert item_fault("arith", "@", "nearest_quotient") is None and item_fault("arith", "@", "root_by_bits") is None
+    for crate, name in (("arith", "greater"), ("board", "Board"), ("cradlekeel", "say"), ("reading", "Reading::number")):
         assert item_fault(crate, "@", name), (crate, name)
-    assert proof_fault("arith", "lesser", re.compile("no such line")) and not proof_fault("arith", "root_by_bits", re.compile("no such line"))
+    none = re.compile("no such line")
+    assert proof_fault("arith", "nearest_quotient", none) and not proof_fault("arith", "root_by_bits", none)
+    # a method of a trait that an impl has, and the folder of one impl, which is no other's
+    assert item_fault("reading", "@", "Micro::convert") is None
+    assert is_folder_of("Reading", "ReadingSource") and is_folder_of("u8", "U8FromRefusal") and not is_folder_of("Micro", "ReadingSource")
     print("check_trace: the self-test found the %d names that are defined" % len(found))
 
 

@@ -8,8 +8,8 @@ ROOT = Path(__file__).resolve().parent.parent
 OPENING, CLOSING = "([{", ")]}"
 FUNCTION = re.compile(r'^[ \t]*(?P<before>(?:pub(?:\([^)]*\))? +|const +|extern "C" +)*)fn +(?P<name>\w+)', re.MULTILINE)
 # An impl of a type, also of a trait for it, or a trait.
-IMPL = re.compile(r"^(?:impl(?: *<[^>]*>)? +(?:[\w:]+(?:<[^{]*>)? +for +)?|(?P<trait>pub +)?trait +)(?P<type>\w+)[^\n]*\{$(?P<body>.*?)^\}$",
-                  re.MULTILINE | re.DOTALL)
+IMPL = re.compile(r"^(?:impl(?: *<[^>]*>)? +(?P<of>[\w:]+(?:<[^{]*>)? +for +)?|(?P<trait>pub +)?trait +)(?P<type>\w+)[^\n]*\{$"
+                  r"(?P<body>.*?)^\}$", re.MULTILINE | re.DOTALL)
 CLAUSE = re.compile(r"\s*(?P<kind>requires|ensures)\b\s*(?P<label>\w*)\s*\{")
 COMMENT = r"//[^\n]*|/\*.*?\*/"
 LITERAL = r"""\bb(?:'(?:\\.|[^'\\])'|"(?:\\.|[^"\\])*")"""
@@ -22,6 +22,7 @@ class Function(NamedTuple):
     requires: tuple  # what stands between the braces of each
     ensures: tuple
     body: str  # what stands between its braces
+    of_trait: bool  # whether it is an impl's of a trait, whose promise it has
 
 
 def without_comments(text):
@@ -99,15 +100,16 @@ def closing_type(text, at):
 def functions(text):
     """Every function of a source file."""
     text = without_comments(text)
-    spans = [(m.start("body"), m.end("body"), m["type"] + "::", m["trait"] is not None) for m in IMPL.finditer(text)]
+    spans = [(m.start("body"), m.end("body"), m) for m in IMPL.finditer(text)]
     found = []
     for match in FUNCTION.finditer(text):
-        owner, of_public_trait = next(((kind, public) for low, high, kind, public in spans if low <= match.start() < high), ("", False))
+        within = next((span for low, high, span in spans if low <= match.start() < high), None)
         opening = text.index("(", after_generics(text, match.end()))
         end = closing(text, opening)
         parameters = tuple(map(parameter, split_at_commas(text[opening + 1:end - 1])))
-        public = of_public_trait or re.search(r"\bpub(?!\()", match["before"]) is not None
-        found.append(Function(owner + match["name"], public, parameters, *after_parameters(text, end)))
+        public = re.search(r"\bpub(?!\()", match["before"]) is not None or within is not None and within["trait"] is not None
+        name = (within["type"] + "::" if within else "") + match["name"]
+        found.append(Function(name, public, parameters, *after_parameters(text, end), within is not None and within["of"] is not None))
     if [f.name.split("::")[-1] for f in found] != re.findall(r"\bfn +(\w+)", text):
         raise ValueError("a function stands in a form that tests/rattle_source.py does not read")
     return found
