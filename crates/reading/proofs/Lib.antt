@@ -1,5 +1,4 @@
 pub mod Range
 pub mod Product
 pub mod Halves
-pub mod Checks
 pub mod Rules

@@ -1,6 +1,8 @@
 -- The code's comparisons of floats are the definition's tests: by cases of the float, then a law over plain numbers.
-use Rattle.std.proofs.Common.{◌≡◌, ℕ, ◌+◌, ◌*◌, ◌<◌, true, false, ◌&&◌, ltb, pos, sym, refl, ap, ◌∙◌, true≢false, mul-pos, one-mul, zero-mul, mul-one, mul_right_comm, mul_left_comm, arith, ltb-false, ltb-true, lt-ltb}
+use Rattle.std.proofs.Common.{◌≡◌, List, [], ◌∷◌, ℕ, ◌+◌, ◌*◌, ◌<◌, true, false, ltb, pos, sym, refl, ap, ◌∙◌, true≢false, mul-pos, one-mul, zero-mul, mul-one, mul_right_comm, mul_left_comm, arith, ltb-false, ltb-true, lt-ltb}
 use mathlib.Core.Bool.{false≢true}
+use Rattle.std.specs.List.{list_all}
+use Rattle.std.specs.Float.{float_is_finite}
 use lib.Ieee.{Float, nan, inf, fin, up, down, lt}
 use lib.Ieee.Fits.{down_pos}
 use lib.Ieee.Scale.{finite}
@@ -10,12 +12,16 @@ use Rattle.reading.specs.FractionLaws.{multiple_test, fraction_test}
 use Rattle.reading.specs.Code.Product.{IsProduct}
 use Rattle.reading.specs.declared.Quantity.{Quantity}
 
-pub finite_same : (x : Float) → lt (inf true) x && lt x (inf false) ≡ finite x
-unfolding lt
-finite_same nan = refl
-finite_same (inf true) = refl
-finite_same (inf false) = refl
-finite_same (fin s m e) = refl
+-- the library's test, in the logic's word
+pub is_finite_same : (x : Float) → float_is_finite x ≡ finite x
+unfolding float_is_finite
+is_finite_same nan = refl
+is_finite_same (inf s) = refl
+is_finite_same (fin s m e) = refl
+
+pub all_finite_same : (l : List Float) → list_all float_is_finite l ≡ list_all finite l
+all_finite_same [] = refl
+all_finite_same (x ∷ l) = rw (is_finite_same x, all_finite_same l) refl
 
 -- of x = a / b and the bound k = w / d: a * d < w * b is a < k * b
 below_bound : (a b d w k : ℕ) → 0 < d → w * 1 ≡ k * d → ltb (a * d) (w * b) ≡ ltb a (k * b)

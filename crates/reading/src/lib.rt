@@ -1,10 +1,12 @@
 // Readings, and the CIE 1960 u and v that each comes to, in micro (document 01, "Readings").
 #![tactic(auto)]
 
-ghost use Rattle.std.specs.Prelude.{◌≡◌, ◌*◌, ◌^◌, ◌<◌, ◌≤◌, true};
-ghost use Rattle.std.specs.Float.Ieee.Scale.{finite};
+ghost use Rattle.std.specs.Prelude.{◌≡◌, ◌*◌, ◌^◌, ◌<◌, ◌≤◌, true, IfOk};
+ghost use Rattle.std.specs.List.{list_all, AllPass};
+ghost use Rattle.std.specs.Float.{float_is_finite};
 ghost use Rattle.arith.specs.Units.{micro};
 ghost use Rattle.reading.specs.Whole.{in_range, to_whole};
+ghost use Rattle.reading.specs.Code.Judge.{judge};
 ghost use Rattle.reading.specs.Code.Product.{IsProduct};
 ghost use Rattle.reading.specs.Convert.{point_over, of_uv, of_uv_prime, of_xy, of_xyz, of_coordinates, of_tristimulus, convert_reading, convert_micro};
 
@@ -40,7 +42,7 @@ pub struct Micro {
 // What a reading comes to: u and v in micro, or why there is none.
 pub type Converted = Result<Chromaticity, Refusal>;
 
-// What a point of the diagram can be had from. No entry point asks for a certain kind: what a source comes to is all that an answer goes by.
+// What comes to a point of the diagram or to a refusal; an answer goes by that alone.
 pub trait Source {
     ghost use Rattle.reading.specs.Convert.{Converted};
 
@@ -87,46 +89,75 @@ const MICRO_LIMIT: u32 = 4000000;
 // The least whole-number Y that is taken.
 const LEAST_Y: u32 = 100000;
 
-// Whether x is neither infinite nor a NaN, of which no comparison holds.
-fn is_finite(x: f32) -> bool
-    ensures { result ≡ finite x }
-{
-    let infinity = 1.0f32 / 0.0;
-    (-infinity < x) & (x < infinity)
-}
-
 // x times n, exactly: x has at most 24 binary digits and n is at most 2^29, so that the product has no more than an f64's 53.
 fn exact_product(x: f32, n: u32) -> f64
-    requires x_value { finite x ≡ true }
+    requires x_value { float_is_finite x ≡ true }
     requires n_bound { n ≤ 2 ^ 29 }
     ensures { IsProduct x n result }
 {
     x as f64 * n as f64
 }
 
-// Whether x is above -1/2 of its unit, where it is below zero, and below its bound otherwise.
-fn is_in_range(x: f32, quantity: Quantity) -> bool
-    requires x_value { finite x ≡ true }
-    requires scale_bound { quantity.scale ≤ 2 ^ 28 }
-    requires bound_nonzero { 0 < quantity.bound }
-    ensures { result ≡ in_range quantity x }
+// Whether no float is infinite or a NaN.
+fn all_finite(floats: &[f32]) -> bool
+    ensures all { result ≡ list_all float_is_finite floats.now }
+    ensures each { result ≡ true → AllPass float_is_finite floats.now }
 {
-    if x < 0.0 {
-        -1.0 < exact_product(x, 2 * quantity.scale)
-    } else {
-        x < quantity.bound as f32
-    }
+    floats.iter().all(|x| x.is_finite())
 }
 
-// floor(x * scale + 1/2), as half of one more than 2 * x * scale cut towards zero.
-fn to_whole(x: f32, quantity: Quantity) -> u32
-    requires scale_bound { quantity.scale ≤ 2 ^ 28 }
-    requires whole_bound { quantity.bound * quantity.scale < 2 ^ 32 }
-    requires x_value { in_range quantity x ≡ true }
-    ensures { result ≡ to_whole quantity x }
-{
-    let halves = std::num::truncating_f64_to_u64(exact_product(x, 2 * quantity.scale));
-    ((halves + 1) / 2) as u32
+impl Quantity {
+    // Whether x is above -1/2 of its unit, where it is below zero, and below its bound otherwise.
+    fn is_in_range(self, x: f32) -> bool
+        requires x_value { float_is_finite x ≡ true }
+        requires scale_bound { self.scale ≤ 2 ^ 28 }
+        requires bound_nonzero { 0 < self.bound }
+        ensures { result ≡ in_range self x }
+    {
+        if x < 0.0 {
+            -1.0 < exact_product(x, 2 * self.scale)
+        } else {
+            x < self.bound as f32
+        }
+    }
+
+    // Whether every float is in range.
+    fn all_in_range(self, floats: &[f32]) -> bool
+        requires finite { AllPass float_is_finite floats.now }
+        requires scale_bound { self.scale ≤ 2 ^ 28 }
+        requires bound_nonzero { 0 < self.bound }
+        ensures { result ≡ list_all (in_range self) floats.now }
+    {
+        floats.iter().all(|x| self.is_in_range(*x))
+    }
+
+    // Refusal 2 or 3, each judged over all floats of the reading.
+    #[tactic(auto, using(crate::proofs::Range::all_finite_same))]
+    fn judge(self, floats: &[f32]) -> Result<(), Refusal>
+        requires scale_bound { self.scale ≤ 2 ^ 28 }
+        requires bound_nonzero { 0 < self.bound }
+        ensures { result ≡ judge self floats.now }
+    {
+        if !all_finite(floats) {
+            return Err(Refusal::NotFinite);
+        }
+        if !self.all_in_range(floats) {
+            return Err(Refusal::OutOfRange);
+        }
+        Ok(())
+    }
+
+    // floor(x * scale + 1/2), as half of one more than 2 * x * scale cut towards zero.
+    fn to_whole(self, x: f32) -> u32
+        requires scale_bound { self.scale ≤ 2 ^ 28 }
+        requires whole_bound { self.bound * self.scale < 2 ^ 32 }
+        requires x_value { in_range self x ≡ true }
+        ensures whole { result ≡ to_whole self x }
+        ensures most { result ≤ self.bound * self.scale }
+    {
+        let halves = std::num::truncating_f64_to_u64(exact_product(x, 2 * self.scale));
+        ((halves + 1) / 2) as u32
+    }
 }
 
 // u and v over the divisor n of x, y or of X, Y, Z. The bounds on x and y keep both within 32 bits.
@@ -169,41 +200,35 @@ pub fn of_xyz(x: u32, y: u32, z: u32) -> Converted
 }
 
 // Two coordinates of any of the three kinds as whole numbers, or the reading's refusal.
+#[tactic(auto, unfolding(crate::specs::Convert::of_coordinates))]
 fn of_coordinates(x: f32, y: f32) -> Converted
-    ensures { result ≡ of_coordinates of_uv x y }
+    ensures point { result ≡ of_coordinates of_uv x y }
+    ensures within { IfOk result (λ p. (p.u ≤ micro) × (p.v ≤ micro)) }
 {
-    if !(is_finite(x) & is_finite(y)) {
-        return Err(Refusal::NotFinite);
-    }
-    if !(is_in_range(x, COORDINATE) & is_in_range(y, COORDINATE)) {
-        return Err(Refusal::OutOfRange);
-    }
+    COORDINATE.judge(&[x, y])?;
     Ok(Chromaticity {
-        u: to_whole(x, COORDINATE),
-        v: to_whole(y, COORDINATE),
+        u: COORDINATE.to_whole(x),
+        v: COORDINATE.to_whole(y),
     })
 }
 
 // u and v from three tristimulus values, or the reading's refusal.
+#[tactic(auto, unfolding(crate::specs::Convert::of_tristimulus))]
 fn of_tristimulus(x: f32, y: f32, z: f32) -> Converted
     ensures { result ≡ of_tristimulus x y z }
 {
-    if !(is_finite(x) & is_finite(y) & is_finite(z)) {
-        return Err(Refusal::NotFinite);
-    }
-    if !(is_in_range(x, TRISTIMULUS) & is_in_range(y, TRISTIMULUS) & is_in_range(z, TRISTIMULUS)) {
-        return Err(Refusal::OutOfRange);
-    }
-    let whole_y = to_whole(y, TRISTIMULUS);
+    TRISTIMULUS.judge(&[x, y, z])?;
+    let whole_y = TRISTIMULUS.to_whole(y);
     if whole_y < LEAST_Y {
         return Err(Refusal::TooDark);
     }
-    of_xyz(to_whole(x, TRISTIMULUS), whole_y, to_whole(z, TRISTIMULUS))
+    of_xyz(TRISTIMULUS.to_whole(x), whole_y, TRISTIMULUS.to_whole(z))
 }
 
 impl Source for Reading {
     ghost comes_to = { convert_reading };
 
+    #[tactic(auto, using(crate::proofs::Rules::ruled), unfolding(crate::specs::Convert::convert_reading))]
     fn convert(self) -> Converted {
         match self {
             Reading::Uv(u, v) => of_coordinates(u, v),

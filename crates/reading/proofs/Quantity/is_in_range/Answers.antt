@@ -3,17 +3,17 @@ use Rattle.std.proofs.Common.{pos, arith}
 use lib.Ieee.{of_bits, neg, of_int, binary32}
 use Rattle.reading.proofs.Range.{below_zero_same, from_zero_same}
 use Rattle.reading.proofs.Product.{whole_float}
-use Rattle.reading.proofs.is_in_range.Goals as goal
+use Rattle.reading.proofs.Quantity.is_in_range.Goals as goal
 
 pub returns-then-x : goal.returns-then-x
 unfolding of_bits neg
 returns-then-x c =
     let a = c.args in
-    below_zero_same a.quantity a.x c.exact_product.result c.exact_product.ensures c.if-x.true
+    below_zero_same a.self a.x c.exact_product.result c.exact_product.ensures c.if-x.true
 
 pub returns-else-x : goal.returns-else-x
 unfolding of_bits
 returns-else-x c =
     let t = c in
     let a = t.args in
-    from_zero_same a.quantity a.x (of_int binary32 (pos a.quantity.bound)) t.requires.bound_nonzero (whole_float binary32 a.quantity.bound (omega arith)) c.if-x.false
+    from_zero_same a.self a.x (of_int binary32 (pos a.self.bound)) t.requires.bound_nonzero (whole_float binary32 a.self.bound (omega arith)) c.if-x.false
