@@ -5,7 +5,7 @@ mod tables;
 
 ghost use Rattle.std.specs.Prelude.{◌≡◌, ◌*◌, ◌≤◌, pos, nat_abs, ◌-ℤ◌};
 ghost use Rattle.arith.specs.Units.{micro};
-ghost use Rattle.locus.specs.Stored.{table_u, table_v, entry_in, entry_u, entry_v, piece_length, first_place, last_place};
+ghost use Rattle.locus.specs.Stored.{table_u, table_v, entry_in, stored_point, piece_length, first_place, last_place};
 ghost use Rattle.locus.specs.Locus.{locus_point, difference, squared_distance, distance_at};
 ghost use Rattle.locus.specs.Admission.{dot, behind, admission};
 ghost use Rattle.locus.specs.Code.Bounds.{far_out};
@@ -66,6 +66,7 @@ pub struct Point {
 }
 
 // The coordinate of entry i, from 1 to 24, in a table of one coordinate.
+#[tactic(auto, unfolding(crate::specs::Stored::entry_in))]
 fn coordinate(table: &[u32; 24], i: usize) -> u32
     requires { (1 ≤ i) × (i ≤ 24) }
     ensures { result ≡ entry_in table.now i }
@@ -93,6 +94,7 @@ struct Curve {
 }
 
 // The third difference of four neighbouring coordinates.
+#[tactic(auto, unfolding(crate::specs::Code::Pieces::third_difference))]
 fn third_difference(w: u32, x: u32, y: u32, z: u32) -> i64
     requires { (w ≤ micro) × (x ≤ micro) × (y ≤ micro) × (z ≤ micro) }
     ensures { result ≡ third_difference w x y z }
@@ -101,6 +103,7 @@ fn third_difference(w: u32, x: u32, y: u32, z: u32) -> i64
 }
 
 // The third difference of the four entries that piece i goes through.
+#[tactic(auto, unfolding(crate::specs::Code::Pieces::third_difference_of))]
 fn third_difference_of(table: &[u32; 24], i: u32) -> i64
     requires { Small table.now × (1 ≤ i) × (i ≤ 23) }
     ensures { result ≡ third_difference_of (entry_in table.now) i }
@@ -131,6 +134,7 @@ fn curve_through(x: u32, y: u32, z: u32, left: i64, right: i64) -> Curve
 }
 
 // The curve about entry m, from 2 to 23.
+#[tactic(auto, unfolding(crate::specs::Code::Pieces::curve_about))]
 fn curve_about(table: &[u32; 24], m: u32) -> Curve
     requires { Small table.now × (2 ≤ m) × (m ≤ 23) }
     ensures { result ≡ curve_about (entry_in table.now) m }
@@ -175,6 +179,7 @@ pub fn squared_difference(x: u32, y: u32) -> u64
 
 impl Point {
     // The squared distance of two points.
+    #[tactic(auto, using(crate::specs::LocusLaws::square_small), unfolding(crate::specs::Locus::squared_distance))]
     fn squared_distance(self, other: Point) -> u64
         ensures { result ≡ squared_distance self.u self.v other.u other.v }
     {
@@ -203,6 +208,7 @@ fn nearer(first: Nearest, second: Nearest) -> Nearest
 
 impl Locus {
     // The locus that is stored.
+    #[tactic(auto, unfolding(crate::specs::Stored::table_u, crate::specs::Stored::stored_u, crate::specs::Stored::table_v, crate::specs::Stored::stored_v))]
     pub fn stored() -> Locus
         ensures { (result.us ≡ table_u) × (result.vs ≡ table_v) }
     {
@@ -215,7 +221,7 @@ impl Locus {
     // Entry i, from 1 to 24.
     fn entry(&self, i: usize) -> Point
         requires { (1 ≤ i) × (i ≤ 24) }
-        ensures { (result.u ≡ entry_u i) × (result.v ≡ entry_v i) }
+        ensures { (result.u ≡ (stored_point i).u) × (result.v ≡ (stored_point i).v) }
     {
         Point {
             u: coordinate(&self.us, i),
@@ -224,6 +230,7 @@ impl Locus {
     }
 
     // Entry i with its squared distance from a reading.
+    #[tactic(auto, unfolding(crate::specs::Locus::entry_distance))]
     fn near_at(&self, reading: Point, i: usize) -> Nearest
         requires { (1 ≤ i) × (i ≤ 24) }
         ensures { result ≡ near_at reading.u reading.v i }
@@ -235,6 +242,7 @@ impl Locus {
     }
 
     // The nearest entry; of equals, the lowest. Both halves of the entries are walked at once, so that neither waits for the other.
+    #[tactic(auto, using(crate::proofs::Admitting::nearest_one, crate::proofs::Admitting::nearest_next))]
     fn nearest_entry(&self, reading: Point) -> Nearest
         ensures { result ≡ nearest_of reading.u reading.v 23 }
     {
@@ -258,6 +266,7 @@ impl Locus {
     }
 
     // The admission of a reading that is not far out.
+    #[tactic(auto, using(std::proofs::lemmas::Bool::Decides::nat_tests), unfolding(crate::specs::Admission::admission))]
     fn admit_near(&self, reading: Point) -> Result<Nearest, Refusal>
         ensures { result ≡ admission reading.u reading.v }
     {
@@ -275,6 +284,7 @@ impl Locus {
     }
 
     // The nearest entry to a reading and its squared distance, or why the reading is refused (refusals 5, 6 and 7).
+    #[tactic(auto, using(crate::specs::AdmissionLaws::far_out_lem))]
     pub fn admit(&self, p: Chromaticity) -> Result<Nearest, Refusal>
         ensures answers { result ≡ admission p.u p.v }
         ensures unchanged { self.exit.now ≡ self.entry.now }
@@ -286,6 +296,7 @@ impl Locus {
     }
 
     // The locus about entry m.
+    #[tactic(auto, using(crate::specs::StoredLaws::steady_u, crate::specs::StoredLaws::steady_v), unfolding(crate::specs::Code::Pieces::span_about))]
     pub fn span_about(&self, m: u32) -> Span
         requires { (1 ≤ m) × (m ≤ 24) }
         ensures answers { result ≡ span_about m }
@@ -325,6 +336,7 @@ pub struct Span {
 
 impl Span {
     // The point of the locus at a place of the span.
+    #[tactic(auto, using(crate::specs::PieceLaws::span_follows))]
     pub fn point_at(self, place: u32) -> Chromaticity
         requires { AboutAnEntry self × (self.from ≤ place) × (place ≤ self.to) }
         ensures { result ≡ locus_point place }

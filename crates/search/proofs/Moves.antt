@@ -1,7 +1,7 @@
 -- The code's search is that of the rules: at its start, after a step whichever way it goes, and in what it answers.
 use mathlib.Core.Path.{◌≡◌, refl, ap, sym, ◌∙◌}
 use mathlib.Core.Bool.{Bool, true, false, cond}
-use Prim.Native.Nat.{ℕ, ◌+◌, ◌-◌, ◌*◌, ◌≤◌}
+use Prim.Native.Nat.{ℕ, ◌+◌, ◌*◌, ◌≤◌}
 use native.Mathlib.Omega.{arith}
 use lib.Dec.{ltb}
 use Rattle.std.specs.Prelude.{Ok}
@@ -72,17 +72,6 @@ module _ (d : ℕ → ℕ) (m j : ℕ) (p : Progress) (h : j ≤ most_steps) (k 
         right = right_next (ltb p.left p.right);
         least = kept_least d _ k.least;
       }
-
--- a step, by the numbers that the code computes
-pub moves :
-    (b : Bool) (d : ℕ → ℕ) (p : Progress) {l r low place distance left right best least : ℕ} → l ≡ d (p.low + p.short) → r ≡ d (p.low + p.long + p.long)
-    → low ≡ cond b p.low (p.low + p.long) → place ≡ cond b (p.low + p.short) (p.low + p.long + p.long) → distance ≡ cond b l r
-    → left ≡ cond b l p.right → right ≡ cond b p.left r
-    → best ≡ cond (ltb distance p.least) place p.best → least ≡ cond (ltb distance p.least) distance p.least
-    → record { low = low; long = p.short; short = p.long - p.short; left = left; right = right; best = best; least = least } ≡ moved b d p
-unfolding moved
-moves true d p el er elow eplace edistance eleft eright ebest eleast = cc
-moves false d p el er elow eplace edistance eleft eright ebest eleast = cc
 
 -- an admitted reading and the span about its entry are what a search begins with
 pub begins : (u v : ℕ) (near : Nearest) (span : Span) → admission u v ≡ Ok near → span ≡ span_about near.entry → Begins u v span near.entry near.distance

@@ -80,6 +80,7 @@ impl Progress {
     }
 
     // One step (rules 4 and 6). The new point of either way is evaluated, and then one is chosen.
+    #[tactic(auto, unfolding(crate::specs::Code::Progress::moved))]
     fn step(self, span: Span, reading: Point) -> Progress
         requires { Lies span self }
         ensures { result ≡ moved (ltb self.left self.right) (distance_at reading.u reading.v) self }

@@ -54,6 +54,7 @@ impl ReadyTable {
     }
 
     // The nearer of the point kept so far and ready point k; of equals, that kept. Where u alone makes the point too far, v is not looked at.
+    #[tactic(auto, using(crate::specs::ReadyLaws::ready_small, crate::specs::ReadyLaws::ready_squares, crate::specs::ScanLaws::kept_stays, crate::specs::ScanLaws::kept_gives_way, locus::specs::LocusLaws::square_small))]
     fn nearer(&self, reading: Point, kept: Nearest, k: usize) -> Nearest
         requires { k ≤ last_ready }
         ensures { result ≡ nearer_of reading.u reading.v kept k }
@@ -73,6 +74,7 @@ impl ReadyTable {
     }
 
     // The place of the ready point that is nearest to a reading, of equals the lowest, where some point is no farther than `near`.
+    #[tactic(auto, using(crate::specs::ScanLaws::scan_next), unfolding(arith::specs::Least::least_of, crate::specs::Code::Scan::bounded))]
     pub fn nearest(&self, p: Chromaticity, near: u64) -> u32
         requires { (p.u ≤ far_out) × (p.v ≤ far_out) × (near ≤ limit) × Within p.u p.v near }
         ensures answers { result ≡ nearest_ready p.u p.v }

@@ -1,6 +1,4 @@
-use mathlib.Core.Path.{ap, ◌∙◌}
 use Rattle.locus.specs.PieceLaws.{span_follows}
-use Rattle.locus.specs.Code.Pieces.{curve_at}
 use Rattle.locus.proofs.Curves.{near_read}
 use Rattle.locus.proofs.Span.point_at.Goals as goal
 
@@ -13,9 +11,3 @@ pub at-v-requires : goal.at-v-requires
 at-v-requires c =
     let f = span_follows c.requires.0 c.requires.1 c.requires.2 in
     (f.v.fits, rw (near_read c.signed_difference-t.ensures f.near) f.near)
-
-pub returns : goal.returns
-returns c =
-    let f = span_follows c.requires.0 c.requires.1 c.requires.2 in
-    let t = near_read c.signed_difference-t.ensures f.near in
-    λ i. record { u = (c.at-u.ensures ∙ ap (curve_at c.args.self.u) t ∙ f.u.gives) i; v = (c.at-v.ensures ∙ ap (curve_at c.args.self.v) t ∙ f.v.gives) i }

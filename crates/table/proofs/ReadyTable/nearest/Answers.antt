@@ -5,8 +5,8 @@ use Rattle.std.specs.Prelude.{Option, Some}
 use Rattle.arith.specs.Least.{least_of}
 use Rattle.arith.specs.LeastLaws.{least}
 use Rattle.table.specs.Ready.{last_ready, ready_place, ready_distance, nearest_ready}
-use Rattle.table.specs.Code.Scan.{Within, bounded, nearest_of, nearer_of}
-use Rattle.table.specs.ScanLaws.{scan_next, scan_last}
+use Rattle.table.specs.Code.Scan.{Within, nearest_of}
+use Rattle.table.specs.ScanLaws.{scan_last}
 use Rattle.table.specs.declared.Nearest.{Nearest}
 use Rattle.table.proofs.ReadyTable.nearest.Goals as goal
 
@@ -15,16 +15,6 @@ ended :
     (u v near k : ℕ) {kept : Nearest} → kept ≡ nearest_of u v near k → k ≡ 1565 → Within u v near
     → kept.number ≡ Some (least_of (ready_distance u v) last_ready)
 ended u v near k h e w = ap (λ (x : Nearest). x.number) (h ∙ ap (nearest_of u v near) e) ∙ scan_last u v near w
-
-pub loop-k-init : goal.loop-k-init
-unfolding least_of bounded
-loop-k-init c = refl
-
-pub loop-k-preserved : goal.loop-k-preserved
-loop-k-preserved c =
-    let a = c.args in
-    let l = c.loop-k in
-    c.nearer-kept.ensures ∙ ap (λ (x : Nearest). nearer_of a.p.u a.p.v x l.k) l.invariant ∙ scan_next a.p.u a.p.v a.near l.k
 
 pub unwrap-requires : goal.unwrap-requires
 unwrap-requires c =
