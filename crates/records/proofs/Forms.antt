@@ -9,7 +9,7 @@ use lib.ListN.{length, take, drop, get_or}
 use lib.Seq.{drop-drop}
 use borrow.Author.Tests.{lt-ltb, le-ltb, eqb-true}
 use Rattle.refusal.specs.declared.Refusal.{Refusal}
-use Rattle.refusal.specs.declared.Refusal.TheVariants.{NoTrailer, BadRecordLength}
+use Rattle.refusal.specs.declared.Refusal.TheVariants.{BadRecordLength}
 use Rattle.records.specs.Bytes.{number}
 use Rattle.records.specs.Fields.{duv_width_of, front_record}
 use Rattle.records.specs.Layout.{width_of, length_of, layout_of}
@@ -61,10 +61,6 @@ module _ (long : ℕ) (l : List ℕ) (i : ℕ) where
   at_none y e h = let k = layout_length long y e in rw (k, known_true (length_of y) (layout_known y), le-ltb i (length l / length_of y) h) refl
 
 module _ (l : List ℕ) where
-  pub form_short : length l < 8 → Err NoTrailer ≡ form_of l
-  unfolding form_of
-  form_short h = rw (lt-ltb (length l) 8 h) refl
-
   pub form_long : (long count back : ℕ) (f : Result Form Refusal) → 8 ≤ length l → long ≡ number (take 2 (drop (length l - 8) l)) →
       count ≡ number (take 2 (drop (length l - 8 + 2) l)) → back ≡ number (take 4 (drop (length l - 8 + 4) l)) →
       f ≡ trailer_form long count back (length l) → f ≡ form_of l

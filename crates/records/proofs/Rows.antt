@@ -1,7 +1,6 @@
 -- The columns as a loop stores the records of a file in them.
 use mathlib.Core.Path.{◌≡◌, ap, sym, subst, ◌∙◌}
-use Prim.Native.Nat.{ℕ, suc, ◌+◌, ◌*◌, ◌≤◌, ◌<◌}
-use native.Mathlib.Nat.{mul-suc, mul-le-mul_left}
+use Prim.Native.Nat.{ℕ, ◌+◌, ◌*◌, ◌≤◌, ◌<◌}
 use native.Mathlib.Numerals.{add-one}
 use mathlib.Core.List.{List, [], ◌∷◌, ◌++◌}
 use native.Mathlib.Omega.{arith}
@@ -13,11 +12,6 @@ use Rattle.records.specs.Columns.{Columns, size_of, filled}
 use Rattle.records.specs.ColumnsLaws.{Level, has_row, filled_next, filled_none, filled_level}
 use Rattle.records.specs.Code.Rows.{stored}
 use Rattle.records.specs.declared.fields.Record.{Record}
-
--- a record that is one of the first n ends within the bytes that hold these
-pub row_within : (long i n size : ℕ) → i < n → long * n ≤ size → long * i + long ≤ size
-row_within long i n size h k =
-    let up : long * suc i ≤ long * n = mul-le-mul_left long (omega arith) in omega (arith, mul-suc long i, up)
 
 module _ (w : ℕ) (l : List ℕ) (c : Columns) where
   -- no record yet

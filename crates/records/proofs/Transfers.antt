@@ -1,56 +1,30 @@
 -- The writer and the reader, by the tests that the code makes and the functions that it calls.
 use mathlib.Core.Path.{◌≡◌, refl, ap, sym, subst, ◌∙◌}
-use Prim.Native.Nat.{ℕ, ◌+◌, ◌*◌, ◌/◌, ◌≤◌, ◌<◌, min}
-use mathlib.Core.Bool.{true, false}
+use Prim.Native.Nat.{ℕ, ◌*◌, ◌≤◌, ◌<◌}
 use mathlib.Core.List.{List}
 use native.Mathlib.Omega.{arith}
 use lib.ListN.{length}
 use lib.Seq.{sets}
-use borrow.Author.Tests.{lt-ltb, le-ltb}
 use Rattle.refusal.specs.declared.Refusal.{Refusal}
-use Rattle.refusal.specs.declared.Refusal.TheVariants.{TooManyRecords, NoRoom}
+use Rattle.refusal.specs.declared.Refusal.TheVariants.{NoRoom}
 use Rattle.records.specs.BytesLaws.{Bytes}
-use Rattle.records.specs.Fields.{duv_width, duv_width_of, record_bytes}
+use Rattle.records.specs.Fields.{duv_width, duv_width_of}
 use Rattle.records.specs.Files.{trailer_bytes, records_bytes, file_of, file_length, records_in, duv_width_in, back_in, form, form_of, records_of}
 use Rattle.records.specs.FilesLaws.{AllNarrow}
 use Rattle.records.specs.Columns.{Columns, size_of, rows, list_of, over, filled}
 use Rattle.records.specs.ColumnsLaws.{length_rows, length_list}
 use Rattle.records.specs.StoreLaws.{file_stored}
-use Rattle.records.specs.Transfer.{write_outcome, has_record_room, stored_into, closed_into, written, read_outcome}
-use Rattle.records.specs.Conditions.{Known, of_20, over_most, short_target, bad_form, short_columns}
+use Rattle.records.specs.Transfer.{write_outcome, closed_into, written, read_outcome}
+use Rattle.records.specs.Conditions.{Known, of_20, bad_form, short_columns}
 use Rattle.records.specs.Layout.{width_of, length_of, layout_of}
 use Rattle.records.proofs.Forms.{layout_length, no_layout}
 use Rattle.records.specs.declared.layout.Layout.{Layout}
 use Rattle.std.proofs.lemmas.Bool.{false≢true}
-use Rattle.records.specs.RefusalLaws.{known_true, condition_write, clear_write, write_done, condition_read, clear_read, form_condition, form_readable}
+use Rattle.records.specs.RefusalLaws.{known_true, write_done, condition_read, clear_read, form_condition, form_readable}
 use Rattle.records.specs.RoundTrips.{SameList, ReadsBack}
 use Rattle.records.specs.RoundTripLaws.{form_records_lem, read_written, written_read}
 use Rattle.records.specs.declared.fields.Record.{Record}
 use Rattle.std.specs.Prelude.{Result, Ok, Err}
-
--- the least of the eight lengths is that of the list
-pub size_is : (c : Columns) (n : ℕ) → n ≡ min (length c.u) (min (length c.v) (min (length c.place) (min (length c.low) (min (length c.high) (min (length c.duv) (min (length c.steps) (length c.class))))))) → n ≡ size_of c
-unfolding size_of
-size_is c n e = e
-
--- the tests of the room, as the code makes them
-module _ (n room : ℕ) where
-  pub many_written : 3200 < n → Err TooManyRecords ≡ write_outcome n room
-  many_written h = sym (condition_write n room TooManyRecords (over_most h))
-
-  pub short_written : n ≤ 3200 → room < 20 * n + 8 → Err NoRoom ≡ write_outcome n room
-  short_written h k = sym (condition_write n room NoRoom (short_target h k))
-
-  pub done_written : n ≤ 3200 → 20 * n + 8 ≤ room → Ok (20 * n + 8) ≡ write_outcome n room
-  done_written h k = sym (clear_write n room h k)
-
--- record i has room or has none, by the test of the code
-module _ (i : ℕ) (r : Record) (old : List ℕ) where
-  pub put_in_room : {new : List ℕ} → i < length old / 20 → new ≡ sets old (20 * i) (record_bytes duv_width r) → (true ≡ has_record_room i old) × (new ≡ stored_into i r old)
-  put_in_room h e = rw (lt-ltb i (length old / 20) h) (refl, e)
-
-  pub put_nowhere : length old / 20 ≤ i → (false ≡ has_record_room i old) × (old ≡ stored_into i r old)
-  put_nowhere h = rw (le-ltb i (length old / 20) h) (refl, refl)
 
 -- a list in columns, whose rows are stored from the first byte on and then closed
 module _ (c : Columns) (n : ℕ) (e : n ≡ size_of c) (old : List ℕ) where
@@ -76,13 +50,6 @@ module _ (c : Columns) (n : ℕ) (e : n ≡ size_of c) (old : List ℕ) where
       let back : SameList duv_width (list_of c) = read_written 3 (list_of c) (of_20 refl) (subst (AllNarrow duv_width) rows_are ns) (omega (arith, length_list c, e, done.0)) in
       let target : new ≡ written (Ok k) (list_of c) old = h ∙ ap (λ (o : Result ℕ Refusal). closed_into o n mid) is_done ∙ file_written done.1 f in
       (as_told ∙ room_of_list, target ∙ ap (λ (o : Result ℕ Refusal). written o (list_of c) old) (sym is_done), subst (λ (o : Result ℕ Refusal). ReadsBack o (list_of c)) (sym is_done) back)
-
--- what the test of the room says, of the list's own length
-pub too_short : {a b n : ℕ} → a ≡ b → a < n → b < n
-too_short {n = n} e h = subst (λ (k : ℕ). k < n) e h
-
-pub long_enough : {a b n : ℕ} → a ≡ b → n ≤ a → n ≤ b
-long_enough {n = n} e h = subst (λ (k : ℕ). n ≤ k) e h
 
 module _ (l : List ℕ) (long n room : ℕ) (e : form_of l ≡ Ok (form long n)) where
   pub short_read : room < n → Err NoRoom ≡ read_outcome l room

@@ -57,6 +57,7 @@ fn trailer_form(record_length: u16, count: u16, back: u32, n: usize) -> Result<F
 }
 
 // The form of a file, or why it cannot be read.
+#[tactic(auto, unfolding(crate::specs::Files::form_of))]
 pub fn check_form(file: &[u8]) -> Result<Form, Refusal>
     ensures form { result ≡ form_of file.now }
     ensures unchanged { file.exit.now ≡ file.entry.now }

@@ -17,6 +17,7 @@ use crate::layout::{Layout, MOST_WRITTEN, RECORD_LENGTH};
 use refusal::Refusal;
 
 // What the writing of n records into so much room comes to.
+#[tactic(auto, unfolding(crate::specs::Transfer::write_outcome))]
 pub fn check_room(n: usize, room: usize) -> Result<usize, Refusal>
     ensures { result ≡ write_outcome n room }
 {

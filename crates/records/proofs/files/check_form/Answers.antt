@@ -1,10 +1,7 @@
 use Rattle.std.proofs.Common.{◌+◌, ◌-◌, length, arith}
 use Rattle.records.proofs.Numbers.{field_2, field_4}
-use Rattle.records.proofs.Forms.{form_short, form_long}
+use Rattle.records.proofs.Forms.{form_long}
 use Rattle.records.proofs.files.check_form.Goals as goal
-
-pub returns-then-n-lt-TRAILER_LENGTH-clause-form : goal.returns-then-n-lt-TRAILER_LENGTH-clause-form
-returns-then-n-lt-TRAILER_LENGTH-clause-form c = form_short c.args.file.now c.if-n-lt-TRAILER_LENGTH.true
 
 pub returns-clause-form : goal.returns-clause-form
 returns-clause-form c =
