@@ -1,57 +1,40 @@
 // The ready table and the coarse reader.
-ghost use Rattle.std.specs.Prelude.{◌≤◌};
+use crate::conversions;
+use crate::conversions::Kind;
+use crate::fields::Numbers;
+use crate::put::Out;
+use reading::{Micro, Source};
+use std::fmt;
+use std::fmt::Write;
+use table::ReadyTable;
 
-use crate::{conversions, fields, put};
-use nearest::Coarse;
+// The number of the last ready point.
+const LAST_READY: u32 = 1564;
 
-// The number of a ready point: the number itself, or the last one's.
-fn ready_number(k: u32) -> usize
-    ensures { result ≤ 1564 }
-{
-    if k < 1565 { k as usize } else { 1564 }
+// `place u v` of ready point k, or of the last one, with the place that the coarse reader answers to the point itself.
+pub(crate) fn ready(k: u32, out: &mut Out) -> fmt::Result {
+    let table = ReadyTable::new();
+    let number = k.min(LAST_READY) as usize;
+    let u = table.numbers[2 * number];
+    let v = table.numbers[2 * number + 1];
+    let place = nearest::coarse_answer(Micro { u, v }).place;
+    writeln!(out, "{place} {u} {v}")
 }
 
-// `place u v` of ready point k, with the place that the coarse reader answers to the point itself.
-pub(crate) fn ready(k: u32, out: &mut [u8; 65536], at: usize) -> usize {
-    let table = table::ready_table();
-    let number = ready_number(k);
-    let u = table[2 * number];
-    let v = table[2 * number + 1];
-    let first = put::number(out, at, nearest::coarse_micro(u, v).place as u64);
-    let second = put::number(out, first, u as u64);
-    put::last(out, second, v as u64)
+// `refusal place` of a source, where the reader that makes the table and the one that is lent it answer the same; otherwise the place is 1,
+// which no answer has.
+fn put_coarse<S: Source + Copy>(source: S, out: &mut Out) -> fmt::Result {
+    let made = nearest::coarse_answer(source);
+    let lent = nearest::coarse_with(&ReadyTable::new(), source);
+    let is_same = made.refusal == lent.refusal && made.place == lent.place;
+    let place = if is_same { made.place } else { 1 };
+    writeln!(out, "{} {place}", made.refusal)
 }
 
-// The place of an answer where both readers answer the same; otherwise 1, which no answer has.
-fn common_place(made: Coarse, lent: Coarse) -> u32 {
-    if (made.refusal == lent.refusal) & (made.place == lent.place) {
-        made.place
-    } else {
-        1
+// The coarse answer to a reading of a kind; one of the lists that are held counts as whole numbers.
+pub(crate) fn coarse(kind: Kind, numbers: &Numbers, out: &mut Out) -> fmt::Result {
+    match kind.reading(numbers) {
+        Some(reading) => put_coarse(reading, out),
+        None => put_coarse(conversions::whole(numbers), out),
     }
-}
-
-// `refusal place`.
-fn put_coarse(made: Coarse, lent: Coarse, out: &mut [u8; 65536], at: usize) -> usize {
-    let first = put::number(out, at, made.refusal as u64);
-    put::last(out, first, common_place(made, lent) as u64)
-}
-
-// The rest of a line after the word `coarse`: the kind and its numbers.
-pub(crate) fn coarse(rest: &[u8], out: &mut [u8; 65536], at: usize) -> usize {
-    let start = 0;
-    let end = fields::find(rest, start, b' ');
-    let kind = fields::word(&rest[start..end]);
-    let mut values = [0u32; 64];
-    fields::numbers(&rest[end..], conversions::hex_fields(kind), &mut values);
-    let table = table::ready_table();
-    if conversions::hex_fields(kind) > 0 {
-        let reading = conversions::reading_of(kind, values[0], values[1], values[2]);
-        let lent = nearest::coarse_converted(&table, reading::convert(reading));
-        return put_coarse(nearest::coarse_reading(reading), lent, out, at);
-    }
-    let u = values[0];
-    let v = values[1];
-    let lent = nearest::coarse_converted(&table, reading::convert_micro(u, v));
-    put_coarse(nearest::coarse_micro(u, v), lent, out, at)
 }

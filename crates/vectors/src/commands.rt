@@ -1,172 +1,163 @@
 // One test vector: the command word, the numbers after it, and the answer.
+use crate::buffer::Buffer;
+use crate::conversions::Kind;
+use crate::fields::Numbers;
 use crate::files::File;
 use crate::lists::Lists;
-use crate::{
-    answers, boards, coarse, conversions, differences, fields, files, lists, parts, put, salvages,
-    samples,
-};
+use crate::put::Out;
+use crate::{answers, boards, coarse, conversions, differences, fields, files, parts, salvages};
+use std::fmt;
+use std::fmt::Write;
 
-// The command words, by their ASCII bytes.
-const POINT: u64 = 0x706f696e74;
+// The most bytes of the first file of a comparison: a file of 3,686 records of 20 bytes has 73,728.
+const FIRST_ROOM: usize = 73728;
 
-const POINTS: u64 = 0x706f696e7473;
+// What is held from line to line: the lists, the file, and the first file of a comparison.
+#[derive(Drop)]
+pub(crate) struct State {
+    lists: Lists,
+    file: File,
+    first: Buffer<u8, FIRST_ROOM>,
+}
 
-const ENTRY: u64 = 0x656e747279;
+// What a line asks for.
+#[derive(Clone, Copy)]
+enum Command {
+    Point,
+    Points,
+    Entry,
+    Search,
+    Class,
+    Edges,
+    Root,
+    Answer,
+    Coarse,
+    Ready,
+    List,
+    Column,
+    File,
+    Write,
+    Form,
+    Record,
+    Read,
+    Board,
+    First,
+    Compare,
+    Salvage,
+    Convert(Kind),
+}
 
-const SEARCH: u64 = 0x736561726368;
-
-const CLASS: u64 = 0x636c617373;
-
-const EDGES: u64 = 0x6564676573;
-
-const ANSWER: u64 = 0x616e73776572;
-
-const LIST: u64 = 0x6c697374;
-
-const SAMPLES: u64 = 0x73616d706c6573;
-
-const COLUMN: u64 = 0x636f6c756d6e;
-
-const FILE: u64 = 0x66696c65;
-
-const WRITE: u64 = 0x7772697465;
-
-const FORM: u64 = 0x666f726d;
-
-const RECORD: u64 = 0x7265636f7264;
-
-const READ: u64 = 0x72656164;
-
-const ROOT: u64 = 0x726f6f74;
-
-const BOARD: u64 = 0x626f617264;
-
-const FIRST: u64 = 0x6669727374;
-
-const COMPARE: u64 = 0x636f6d70617265;
-
-const SALVAGE: u64 = 0x73616c76616765;
-
-const READY: u64 = 0x7265616479;
-
-const COARSE: u64 = 0x636f61727365;
-
-// A command of decimal numbers, or a conversion.
-fn run(
-    command: u64,
-    values: [u32; 64],
-    count: usize,
-    lists: &Lists,
-    out: &mut [u8; 65536],
-    at: usize,
-) -> usize {
-    match command {
-        POINT => parts::point(values[0], out, at),
-        POINTS => parts::points(values[0], values[1], out, at),
-        ENTRY => parts::entry(values[0], values[1], out, at),
-        SEARCH => parts::search(values[0], values[1], values[2], out, at),
-        CLASS => parts::class(values, count, out, at),
-        EDGES => parts::edges(values, count, out, at),
-        SAMPLES => samples::conversion(lists, out, at),
-        READY => coarse::ready(values[0], out, at),
-        _ => conversions::conversion(command, values, out, at),
+impl Command {
+    // The command of a name; any other name than these is that of a kind to convert.
+    fn named(name: &[u8]) -> Command {
+        match name {
+            b"point" => Command::Point,
+            b"points" => Command::Points,
+            b"entry" => Command::Entry,
+            b"search" => Command::Search,
+            b"class" => Command::Class,
+            b"edges" => Command::Edges,
+            b"root" => Command::Root,
+            b"answer" => Command::Answer,
+            b"coarse" => Command::Coarse,
+            b"ready" => Command::Ready,
+            b"list" => Command::List,
+            b"column" => Command::Column,
+            b"file" => Command::File,
+            b"write" => Command::Write,
+            b"form" => Command::Form,
+            b"record" => Command::Record,
+            b"read" => Command::Read,
+            b"board" => Command::Board,
+            b"first" => Command::First,
+            b"compare" => Command::Compare,
+            b"salvage" => Command::Salvage,
+            _ => Command::Convert(Kind::named(name)),
+        }
     }
 }
 
-// The rest of a line after the word `answer`: the kind, its numbers, the most steps and the edges.
-fn answer(rest: &[u8], lists: &Lists, out: &mut [u8; 65536], at: usize) -> usize {
-    let start = 0;
-    let end = fields::find(rest, start, b' ');
-    let kind = fields::word(&rest[start..end]);
-    let mut values = [0u32; 64];
-    let count = fields::numbers(&rest[end..], conversions::hex_fields(kind), &mut values);
-    if kind == SAMPLES {
-        return samples::answer(lists, values, count, out, at);
+// What a source of a kind comes to.
+fn convert(kind: Kind, text: &[u8], lists: &Lists, out: &mut Out) -> fmt::Result {
+    let numbers = Numbers::read(text, kind.floats());
+    if let Some(reading) = kind.reading(&numbers) {
+        return conversions::convert(reading, out);
     }
-    answers::answer(kind, values, count, out, at)
-}
-
-// The rest of a line after the word `list` or `column`: the list's name, and the numbers that it is to hold.
-fn list(command: u64, rest: &[u8], lists: &mut Lists, out: &mut [u8; 65536], at: usize) -> usize {
-    let start = 0;
-    let end = fields::find(rest, start, b' ');
-    let list = lists::named(command == COLUMN, fields::word(&rest[start..end]));
-    let count = lists::replace(lists, list, &rest[end..]);
-    put::last(out, at, count as u64)
-}
-
-// The rest of a line after the word `file`, with the space before it: the bytes that the file is to hold.
-fn replace_file(
-    rest: &[u8],
-    lists: &mut Lists,
-    file: &mut File,
-    out: &mut [u8; 65536],
-    at: usize,
-) -> usize {
-    let length = files::replace(file, rest);
-    lists::set_file_length(lists, length);
-    put::last(out, at, length as u64)
-}
-
-// The line `first`: the file that is held becomes the first one of a comparison.
-fn replace_first(lists: &mut Lists, file: &mut File, out: &mut [u8; 65536], at: usize) -> usize {
-    let length = files::keep_first(file, lists::file_length(lists));
-    lists::set_first_length(lists, length);
-    put::last(out, at, length as u64)
-}
-
-// The line `compare`: the first file and the file that is held, with room for so many numbers.
-fn compare(room: u32, lists: &Lists, file: &File, out: &mut [u8; 65536], at: usize) -> usize {
-    let first = files::first(file, lists::first_length(lists));
-    let second = files::held(file, lists::file_length(lists));
-    differences::compare(first, second, room, out, at)
-}
-
-// A line by its first word, and what follows with the space before it.
-fn run_text(
-    command: u64,
-    text: &[u8],
-    lists: &mut Lists,
-    file: &mut File,
-    out: &mut [u8; 65536],
-    at: usize,
-) -> usize {
-    let mut values = [0u32; 64];
-    let count = fields::numbers(text, conversions::hex_fields(command), &mut values);
-    let length = lists::file_length(lists);
-    match command {
-        ANSWER => answer(fields::after_space(text), lists, out, at),
-        COARSE => coarse::coarse(fields::after_space(text), out, at),
-        LIST | COLUMN => list(command, fields::after_space(text), lists, out, at),
-        FILE => replace_file(text, lists, file, out, at),
-        WRITE => files::write(values[0], lists, file, out, at),
-        FORM => files::form(files::held(file, length), out, at),
-        RECORD => files::record(
-            files::held(file, length),
-            fields::long_decimal(text),
-            out,
-            at,
-        ),
-        READ => files::read(files::held(file, length), values, out, at),
-        ROOT => parts::root(fields::long_decimal(text), out, at),
-        BOARD => boards::history(text, lists, out, at),
-        FIRST => replace_first(lists, file, out, at),
-        COMPARE => compare(values[0], lists, file, out, at),
-        SALVAGE => salvages::salvage(files::held(file, length), text, values, count, out, at),
-        _ => run(command, values, count, lists, out, at),
+    match kind {
+        Kind::Samples => conversions::convert(lists.samples(), out),
+        _ => conversions::convert(conversions::whole(&numbers), out),
     }
 }
 
-// Answers one line, without its newline.
-pub(crate) fn answer_line(
-    line: &[u8],
-    lists: &mut Lists,
-    file: &mut File,
-    out: &mut [u8; 65536],
-    at: usize,
-) -> usize {
-    let start = 0;
-    let end = fields::find(line, start, b' ');
-    let command = fields::word(&line[start..end]);
-    run_text(command, &line[end..], lists, file, out, at)
+// The rest of a line after the word `answer` or `coarse`, with the space before it: the kind, and the numbers after it.
+fn kind_and_numbers(text: &[u8]) -> (Kind, Numbers) {
+    let (word, rest) = fields::next_word(text);
+    let kind = Kind::named(fields::name(word));
+    (kind, Numbers::read(rest, kind.floats()))
+}
+
+// A count, alone on its line.
+fn put_count(count: usize, out: &mut Out) -> fmt::Result {
+    writeln!(out, "{count}")
+}
+
+impl State {
+    // Nothing is held.
+    pub(crate) fn new() -> State {
+        State {
+            lists: Lists::new(),
+            file: Buffer::new(0),
+            first: Buffer::new(0),
+        }
+    }
+
+    // The file that is held becomes the first one of a comparison.
+    fn keep_first(&mut self, out: &mut Out) -> fmt::Result {
+        self.first.clear();
+        self.first.extend(self.file.items());
+        put_count(self.first.len(), out)
+    }
+
+    // A command, and the text after its word with the space before it.
+    fn run(&mut self, command: Command, text: &[u8], out: &mut Out) -> fmt::Result {
+        let numbers = Numbers::read(text, 0);
+        match command {
+            Command::Point => parts::point(numbers.at(0), out),
+            Command::Points => parts::points(numbers.at(0), numbers.at(1), out),
+            Command::Entry => parts::entry(&numbers, out),
+            Command::Search => parts::search(&numbers, out),
+            Command::Class => parts::class(&numbers, out),
+            Command::Edges => parts::edges(&numbers, out),
+            Command::Root => parts::root(fields::long_decimal(text), out),
+            Command::Answer => {
+                let (kind, numbers) = kind_and_numbers(text);
+                answers::answer(kind, &numbers, &self.lists, out)
+            }
+            Command::Coarse => {
+                let (kind, numbers) = kind_and_numbers(text);
+                coarse::coarse(kind, &numbers, out)
+            }
+            Command::Ready => coarse::ready(numbers.at(0), out),
+            Command::List => put_count(self.lists.replace_spectral(text), out),
+            Command::Column => put_count(self.lists.replace_column(text), out),
+            Command::File => put_count(files::replace(&mut self.file, text), out),
+            Command::Write => files::write(numbers.at(0), &self.lists, &mut self.file, out),
+            Command::Form => files::form(self.file.items(), out),
+            Command::Record => files::record(self.file.items(), fields::long_decimal(text), out),
+            Command::Read => files::read(self.file.items(), &numbers, out),
+            Command::Board => boards::history(text, &self.lists, out),
+            Command::First => self.keep_first(out),
+            Command::Compare => {
+                differences::compare(self.first.items(), self.file.items(), numbers.at(0), out)
+            }
+            Command::Salvage => salvages::salvage(self.file.items(), text, &numbers, out),
+            Command::Convert(kind) => convert(kind, text, &self.lists, out),
+        }
+    }
+
+    // Answers one line, without its newline.
+    pub(crate) fn answer(&mut self, line: &[u8], out: &mut Out) -> fmt::Result {
+        let (word, text) = fields::cut(line, b' ');
+        self.run(Command::named(fields::name(word)), text, out)
+    }
 }

@@ -1,60 +1,81 @@
-// The conversions: a reading of one of the five kinds, and what it comes to.
+// The conversions: a reading of one of the kinds, and what it comes to.
+use crate::fields::Numbers;
 use crate::put;
-use reading::{Converted, Reading};
+use crate::put::Out;
+use reading::{Micro, Reading, Source};
+use std::fmt;
+use std::fmt::Write;
 
-// The words of the kinds, by their ASCII bytes; any other word counts as whole.
-const UV: u64 = 0x7576;
+// The kinds of readings.
+#[derive(Clone, Copy)]
+pub(crate) enum Kind {
+    // the four of floats, given by their bits in hexadecimal
+    Uv,
+    UvPrime,
+    Xy,
+    Xyz,
+    // the lists that are held
+    Samples,
+    // u and v in micro
+    Whole,
+}
 
-const UVP: u64 = 0x757670;
+impl Kind {
+    // The kind of a name; any other name than these is that of whole numbers.
+    pub(crate) fn named(name: &[u8]) -> Kind {
+        match name {
+            b"uv" => Kind::Uv,
+            b"uvp" => Kind::UvPrime,
+            b"xy" => Kind::Xy,
+            b"xyz" => Kind::Xyz,
+            b"samples" => Kind::Samples,
+            _ => Kind::Whole,
+        }
+    }
 
-const XY: u64 = 0x7879;
+    // How many of a kind's numbers are floats.
+    pub(crate) fn floats(self) -> usize {
+        match self {
+            Kind::Uv | Kind::UvPrime | Kind::Xy => 2,
+            Kind::Xyz => 3,
+            Kind::Samples | Kind::Whole => 0,
+        }
+    }
 
-const XYZ: u64 = 0x78797a;
-
-// How many of a kind's numbers are floats, given by their bits in hexadecimal.
-pub(crate) fn hex_fields(kind: u64) -> usize {
-    match kind {
-        UV | UVP | XY => 2,
-        XYZ => 3,
-        _ => 0,
+    // The reading of a kind of floats.
+    pub(crate) fn reading(self, numbers: &Numbers) -> Option<Reading> {
+        let a = float(numbers.at(0));
+        let b = float(numbers.at(1));
+        match self {
+            Kind::Uv => Some(Reading::Uv(a, b)),
+            Kind::UvPrime => Some(Reading::UvPrime(a, b)),
+            Kind::Xy => Some(Reading::Xy(a, b)),
+            Kind::Xyz => Some(Reading::Xyz(a, b, float(numbers.at(2)))),
+            Kind::Samples | Kind::Whole => None,
+        }
     }
 }
 
 // The float of a bit pattern; every NaN's pattern gives one NaN, since no NaN can be made from its bits.
 fn float(bits: u32) -> f32 {
     if bits % 2147483648 > 2139095040 {
-        return 0.0 / 0.0;
+        return f32::NAN;
     }
     f32::from_bits(bits)
 }
 
-// The reading of one of the four kinds of floats; any other kind counts as xyz.
-pub(crate) fn reading_of(kind: u64, a: u32, b: u32, c: u32) -> Reading {
-    match kind {
-        UV => Reading::Uv(float(a), float(b)),
-        UVP => Reading::UvPrime(float(a), float(b)),
-        XY => Reading::Xy(float(a), float(b)),
-        _ => Reading::Xyz(float(a), float(b), float(c)),
+// The first two numbers as u and v in micro.
+pub(crate) fn whole(numbers: &Numbers) -> Micro {
+    Micro {
+        u: numbers.at(0),
+        v: numbers.at(1),
     }
 }
 
-// `0 u v`, or the refusal's number alone.
-pub(crate) fn put_converted(converted: Converted, out: &mut [u8; 65536], at: usize) -> usize {
-    match converted {
-        Converted::Point(u, v) => {
-            let first = put::number(out, at, 0);
-            let second = put::number(out, first, u as u64);
-            put::last(out, second, v as u64)
-        }
-        Converted::Refused(refusal) => put::refused(out, at, refusal),
+// `0 u v` of what a source comes to, or the refusal's number alone.
+pub(crate) fn convert<S: Source>(source: S, out: &mut Out) -> fmt::Result {
+    match source.convert() {
+        Ok(point) => writeln!(out, "0 {} {}", point.u, point.v),
+        Err(refusal) => put::refused(refusal, out),
     }
-}
-
-// What the reading of a kind comes to.
-pub(crate) fn conversion(kind: u64, values: [u32; 64], out: &mut [u8; 65536], at: usize) -> usize {
-    if hex_fields(kind) > 0 {
-        let reading = reading_of(kind, values[0], values[1], values[2]);
-        return put_converted(reading::convert(reading), out, at);
-    }
-    put_converted(reading::convert_micro(values[0], values[1]), out, at)
 }

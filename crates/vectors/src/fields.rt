@@ -1,147 +1,131 @@
 // The fields of a line: words, decimal numbers and hexadecimal numbers, one space between.
 ghost use Rattle.std.specs.Prelude.{◌<◌, ◌≤◌, length};
 
-// The index of the first `byte` at or after `from`, or the text's length where there is none.
-pub(crate) fn find(text: &[u8], from: usize, byte: u8) -> usize
-    requires { from ≤ length text.now }
-    ensures { (from ≤ result) × (result ≤ length text.now) }
-{
-    let mut i = from;
-    while i < text.len() {
-        if text[i] == byte {
-            return i;
-        }
-        i += 1;
-    }
-    i
+use crate::buffer::Buffer;
+
+// The most numbers of a line that are told apart.
+const MOST_NUMBERS: usize = 64;
+
+// The numbers of a line.
+#[derive(Drop)]
+pub(crate) struct Numbers(Buffer<u32, MOST_NUMBERS>);
+
+// The base that a number is written in.
+#[derive(Clone, Copy)]
+enum Base {
+    Ten = 10,
+    Sixteen = 16,
 }
 
-fn wide(byte: u8) -> u64
-    ensures { result < 256 }
+// A text before the first `byte`, and from it on; the whole text, and nothing, where there is none.
+pub(crate) fn cut(text: &[u8], byte: u8) -> (&[u8], &[u8])
+    ensures { length result.1.now ≤ length text.now }
 {
-    byte as u64
+    let end = text.iter().position(|b| *b == byte).unwrap_or(text.len());
+    (&text[..end], &text[end..])
 }
 
-// The number that a word's last eight ASCII bytes make, the first most significant.
-pub(crate) fn word(text: &[u8]) -> u64 {
-    let mut value: u64 = 0;
-    let mut i = 0;
-    while i < text.len() {
-        value = (value % 72057594037927936) * 256 + wide(text[i]);
-        i += 1;
+// The word after the space that a text begins with, and what follows the word; nothing where the text ends.
+pub(crate) fn next_word(text: &[u8]) -> (&[u8], &[u8])
+    ensures within { length result.1.now ≤ length text.now }
+    ensures shorter { 0 < length text.now → length result.1.now < length text.now }
+{
+    match text {
+        [] => (text, text),
+        [_, rest @ ..] => cut(rest, b' '),
     }
-    value
+}
+
+// The name that a word stands for: its last eight bytes, without the zeros that they begin with.
+pub(crate) fn name(word: &[u8]) -> &[u8] {
+    let last = &word[word.len().saturating_sub(8)..];
+    let start = last.iter().position(|b| *b != 0).unwrap_or(last.len());
+    &last[start..]
 }
 
 // What a digit of base 16 or less stands for; any other byte counts as 0.
-fn digit(byte: u8) -> u64
-    ensures { result < 16 }
-{
-    if byte >= b'0' {
-        if byte <= b'9' {
-            return (byte - 48) as u64;
-        }
-        if byte >= b'a' {
-            if byte <= b'f' {
-                return (byte - 87) as u64;
-            }
-        }
+fn digit(byte: u8) -> u8 {
+    match byte {
+        b'0'..=b'9' => byte - b'0',
+        b'a'..=b'f' => byte - b'a' + 10,
+        _ => 0,
     }
-    0
-}
-
-// A number with one more digit; only the last 32 bits are kept.
-fn with_digit(value: u32, is_hex: bool, byte: u8) -> u32 {
-    if is_hex {
-        return ((value as u64 * 16 + digit(byte)) % 4294967296) as u32;
-    }
-    ((value as u64 * 10 + digit(byte)) % 4294967296) as u32
-}
-
-// A decimal number; only the last 32 bits are kept.
-pub(crate) fn decimal(text: &[u8]) -> u32 {
-    let mut value = 0;
-    let mut i = 0;
-    while i < text.len() {
-        value = with_digit(value, false, text[i]);
-        i += 1;
-    }
-    value
-}
-
-// Ten times a number; only the last 64 bits are kept.
-fn ten_times(value: u64) -> u64 {
-    let twice = value.wrapping_add(value);
-    let four_times = twice.wrapping_add(twice);
-    let five_times = four_times.wrapping_add(value);
-    five_times.wrapping_add(five_times)
-}
-
-// A decimal number; only the last 64 bits are kept.
-pub(crate) fn long_decimal(text: &[u8]) -> u64 {
-    let mut value: u64 = 0;
-    let mut i = 0;
-    while i < text.len() {
-        value = ten_times(value).wrapping_add(digit(text[i]));
-        i += 1;
-    }
-    value
 }
 
 // The byte of two hexadecimal digits.
 pub(crate) fn byte_of(high: u8, low: u8) -> u8 {
-    (digit(high) * 16 + digit(low)) as u8
+    digit(high) << 4 | digit(low)
 }
 
-// What follows a space, or nothing where a text has no byte.
-pub(crate) fn after_space(text: &[u8]) -> &[u8] {
-    if text.len() == 0 {
-        return text;
-    }
-    let start = 1;
-    &text[start..]
+// A number with one more digit; only the last 32 bits are kept.
+fn with_digit(value: u32, base: Base, byte: u8) -> u32 {
+    value
+        .wrapping_mul(base as u32)
+        .wrapping_add(u32::from(digit(byte)))
 }
 
-// Takes one byte: a space begins the next number, any other is a digit of the number begun last.
-fn take_byte(byte: u8, hex_fields: usize, count: usize, values: &mut [u32; 64]) -> usize
-    requires { count ≤ 64 }
-    ensures { result ≤ 64 }
+// A decimal number; only the last 64 bits are kept.
+pub(crate) fn long_decimal(text: &[u8]) -> u64 {
+    text.iter().fold(0u64, |value, byte| {
+        value.wrapping_mul(10).wrapping_add(u64::from(digit(*byte)))
+    })
+}
+
+// The number after the space that a text begins with, and what follows it; 0 where the text ends.
+pub(crate) fn next_number(text: &[u8]) -> (u64, &[u8])
+    ensures { length result.1.now ≤ length text.now }
 {
-    if byte == b' ' {
-        return if count < 64 { count + 1 } else { 64 };
-    }
-    if count == 0 {
-        return 0;
-    }
-    let k = count - 1;
-    values[k] = with_digit(values[k], k < hex_fields, byte);
-    count
+    let (word, rest) = next_word(text);
+    (long_decimal(word), rest)
 }
 
-// Reads numbers, each with a space before it, into zeroed `values`, the first `hex_fields` of them in base 16;
-// answers how many there are.
-pub(crate) fn numbers(text: &[u8], hex_fields: usize, values: &mut [u32; 64]) -> usize
-    ensures { result ≤ 64 }
-{
-    let mut count = 0;
-    let mut i = 0;
-    while i < text.len() {
-        count = take_byte(text[i], hex_fields, count, values);
-        i += 1;
-    }
-    count
+// A decimal number; only the last 32 bits are kept.
+pub(crate) fn decimal(text: &[u8]) -> u32 {
+    (long_decimal(text) & 0xffff_ffff) as u32
 }
 
-// Where the numbers from `start` on end: `count`, brought between `start` and 64.
-pub(crate) fn bounded(count: usize, start: usize) -> usize
-    requires { start ≤ 64 }
-    ensures { (start ≤ result) × (result ≤ 64) }
-{
-    if count < start {
-        return start;
+// What a field writes, and how many times it stands in a row: `TEXT` stands for TEXT once, `TEXTxK` for TEXT K times.
+pub(crate) fn run(field: &[u8]) -> (&[u8], u32) {
+    let (text, times) = cut(field, b'x');
+    match times {
+        [] => (text, 1),
+        [_, times @ ..] => (text, decimal(times)),
     }
-    if count > 64 {
-        return 64;
+}
+
+impl Numbers {
+    // Reads numbers, each with a space before it, the first `hex_fields` of them in base 16.
+    pub(crate) fn read(text: &[u8], hex_fields: usize) -> Numbers {
+        let mut numbers = Numbers(Buffer::new(0));
+        for byte in text {
+            numbers.take(*byte, hex_fields);
+        }
+        numbers
     }
-    count
+
+    // Takes one byte: a space begins the next number, any other is a digit of the number begun last.
+    fn take(&mut self, byte: u8, hex_fields: usize) {
+        if byte == b' ' {
+            self.0.push(0);
+            return;
+        }
+        let base = if self.0.len() <= hex_fields {
+            Base::Sixteen
+        } else {
+            Base::Ten
+        };
+        if let Some(last) = self.0.pop() {
+            self.0.push(with_digit(last, base, byte));
+        }
+    }
+
+    // The number at an index, 0 where there is none.
+    pub(crate) fn at(&self, index: usize) -> u32 {
+        self.from(index).first().copied().unwrap_or(0)
+    }
+
+    // The numbers from an index on.
+    pub(crate) fn from(&self, start: usize) -> &[u32] {
+        self.0.items().get(start..).unwrap_or(&[])
+    }
 }

@@ -3,8 +3,9 @@
 
 mod answers;
 mod boards;
+mod buffer;
+mod checksum;
 mod coarse;
-mod columns;
 mod commands;
 mod conversions;
 mod differences;
@@ -14,11 +15,11 @@ mod lists;
 mod parts;
 mod put;
 mod salvages;
-mod samples;
 mod targets;
 
-use files::File;
-use lists::Lists;
+use buffer::Buffer;
+use commands::State;
+use put::{OUT_ROOM, Out};
 use std::io::{Read, Write};
 
 // The most bytes of a line that are held; a full list of numbers of ten digits takes 5,638.
@@ -28,155 +29,66 @@ const LINE_ROOM: usize = 8192;
 // other call of five or more has nine at most, and there are 14 besides.
 const ANSWER_ROOM: usize = 16384;
 
-type Line = [u8; LINE_ROOM];
-
-// How many bytes of a line are held, and how many bytes of output wait to be written.
-#[derive(Clone, Copy)]
-struct Progress {
-    held: usize,
-    waiting: usize,
-}
-
-// What one read came to: how many bytes of a line are held, and whether there may be more to read.
-#[derive(Clone, Copy)]
-struct Turn {
-    held: usize,
-    more: bool,
-}
-
-// A count of bytes as `io::count` takes it, which brings it within the buffer.
-fn as_count(n: usize) -> isize {
-    if n < 65536 { n as isize } else { 65536 }
-}
+// The bytes of a line that are held; what is beyond its room is dropped.
+type Line = Buffer<u8, LINE_ROOM>;
 
 // Writes the output that waits; where it cannot be written, the answers are missing from it.
-fn write_out(rt: HostRuntime, out: [u8; 65536], waiting: usize) {
-    let n = io::count(as_count(waiting), &out);
-    let _ = rt.stdout().write_all(&out[..n]);
+fn write_out(rt: HostRuntime, out: &mut Out) {
+    let _ = rt.stdout().write_all(out.bytes());
+    out.clear();
 }
 
-// Writes the output where its buffer has no more room for an answer; answers how much then waits.
-fn with_room(rt: HostRuntime, out: &[u8; 65536], waiting: usize) -> usize {
-    if waiting < 65536 - ANSWER_ROOM {
-        return waiting;
-    }
-    write_out(rt, *out, waiting);
-    0
-}
-
-// Holds one more byte of a line; what is beyond its room is dropped.
-fn hold(line: &mut Line, held: usize, byte: u8) -> usize {
-    if held >= LINE_ROOM {
-        return held;
-    }
-    line[held] = byte;
-    held + 1
-}
-
-// Answers the line that is held.
-fn answer_held(
-    line: &[u8],
-    held: usize,
-    lists: &mut Lists,
-    file: &mut File,
-    out: &mut [u8; 65536],
-    waiting: usize,
-) -> usize {
-    let n = io::count(as_count(held), line);
-    commands::answer_line(&line[..n], lists, file, out, waiting)
+// Answers the line that is held; no write to `Out` fails.
+fn answer(line: &Line, state: &mut State, out: &mut Out) {
+    let _ = state.answer(line.items(), out);
 }
 
 // Takes one byte of input: a newline ends the line that is held.
-fn take_byte(
-    rt: HostRuntime,
-    byte: u8,
-    line: &mut Line,
-    lists: &mut Lists,
-    file: &mut File,
-    out: &mut [u8; 65536],
-    progress: Progress,
-) -> Progress {
+fn take_byte(rt: HostRuntime, byte: u8, line: &mut Line, state: &mut State, out: &mut Out) {
     if byte != b'\n' {
-        return Progress {
-            held: hold(line, progress.held, byte),
-            waiting: progress.waiting,
-        };
+        line.push(byte);
+        return;
     }
-    let longer = answer_held(line, progress.held, lists, file, out, progress.waiting);
-    Progress {
-        held: 0,
-        waiting: with_room(rt, out, longer),
+    answer(line, state, out);
+    line.clear();
+    if out.bytes().len() >= OUT_ROOM - ANSWER_ROOM {
+        write_out(rt, out);
     }
 }
 
-// Takes a block of input and writes its output; answers how many bytes of a line are then held.
-fn take_block(
-    rt: HostRuntime,
-    input: &[u8],
-    line: &mut Line,
-    held: usize,
-    lists: &mut Lists,
-    file: &mut File,
-) -> usize {
-    let mut out = io::large_buffer();
-    let mut progress = Progress {
-        held: held,
-        waiting: 0,
-    };
-    let mut i = 0;
-    while i < input.len() {
-        progress = take_byte(rt, input[i], line, lists, file, &mut out, progress);
-        i += 1;
+// Takes a block of input and writes its output.
+fn take_block(rt: HostRuntime, input: &[u8], line: &mut Line, state: &mut State) {
+    let mut out = Out::new();
+    for byte in input {
+        take_byte(rt, *byte, line, state, &mut out);
     }
-    write_out(rt, out, progress.waiting);
-    progress.held
+    write_out(rt, &mut out);
 }
 
-// Reads once.
-fn read_some(
-    rt: HostRuntime,
-    line: &mut Line,
-    held: usize,
-    lists: &mut Lists,
-    file: &mut File,
-) -> Turn {
-    let mut block = io::large_buffer();
+// Reads once; answers whether there may be more to read.
+fn read_some(rt: HostRuntime, line: &mut Line, state: &mut State) -> bool {
+    let mut block = [0u8; 65536];
     let got = rt.stdin().read(&mut block).unwrap_or(0);
-    if got == 0 {
-        return Turn {
-            held: held,
-            more: false,
-        };
-    }
-    let n = io::count(as_count(got), &block);
-    Turn {
-        held: take_block(rt, &block[..n], line, held, lists, file),
-        more: true,
-    }
+    take_block(rt, &block[..got.min(65536)], line, state);
+    got > 0
 }
 
 // Answers a last line that has no newline.
-fn finish(rt: HostRuntime, line: Line, held: usize, lists: &mut Lists, file: &mut File) {
-    if held > 0 {
-        let mut out = io::large_buffer();
-        let waiting = answer_held(&line, held, lists, file, &mut out, 0);
-        write_out(rt, out, waiting);
+fn finish(rt: HostRuntime, line: &Line, state: &mut State) {
+    if line.len() > 0 {
+        let mut out = Out::new();
+        answer(line, state, &mut out);
+        write_out(rt, &mut out);
     }
 }
 
 fn main(rt: HostRuntime) {
-    let mut line = [0u8; LINE_ROOM];
-    let mut lists = [0u32; lists::SIZE];
-    let mut file = [0u8; files::SIZE];
-    let mut held = 0;
-    let mut turns = u64::MAX;
-    while turns > 0 {
-        let turn = read_some(rt, &mut line, held, &mut lists, &mut file);
-        held = turn.held;
-        if !turn.more {
+    let mut line = Line::new(0);
+    let mut state = State::new();
+    for _ in 0..u64::MAX {
+        if !read_some(rt, &mut line, &mut state) {
             break;
         }
-        turns -= 1;
     }
-    finish(rt, line, held, &mut lists, &mut file);
+    finish(rt, &line, &mut state);
 }

@@ -1,84 +1,55 @@
-// Appending to the output: each function takes where the output ends and answers where it then ends; what has no
-// room is dropped.
+// The output that waits to be written.
+use crate::buffer::Buffer;
 use refusal::Refusal;
+use std::fmt;
+use std::fmt::Write;
 
-const SPACE: u8 = b' ';
+// The most bytes that wait.
+pub(crate) const OUT_ROOM: usize = 65536;
 
-const NEWLINE: u8 = b'\n';
+// Bytes that are added one after another; what has no room is dropped, and no write fails.
+#[derive(Drop)]
+pub(crate) struct Out(Buffer<u8, OUT_ROOM>);
 
-fn byte(out: &mut [u8; 65536], at: usize, b: u8) -> usize {
-    if at >= 65536 {
-        return at;
+impl Out {
+    pub(crate) fn new() -> Out {
+        Out(Buffer::new(0))
     }
-    out[at] = b;
-    at + 1
-}
 
-fn bytes(out: &mut [u8; 65536], at: usize, text: &[u8]) -> usize {
-    let mut end = at;
-    let mut i = 0;
-    while i < text.len() {
-        end = byte(out, end, text[i]);
-        i += 1;
+    pub(crate) fn bytes(&self) -> &[u8] {
+        self.0.items()
     }
-    end
-}
 
-// A number, and the byte after it.
-fn decimal(out: &mut [u8; 65536], at: usize, n: u64, after: u8) -> usize {
-    let mut digits = [0u8; 20];
-    let k = io::decimal(n, &mut digits);
-    let end = bytes(out, at, &digits[..k]);
-    byte(out, end, after)
-}
-
-// Sixteen hexadecimal digits, and the byte after them.
-fn pattern(out: &mut [u8; 65536], at: usize, n: u64, after: u8) -> usize {
-    let mut digits = [0u8; 16];
-    let k = io::hex(n, 16, &mut digits);
-    let end = bytes(out, at, &digits[..k]);
-    byte(out, end, after)
-}
-
-// A number with more to follow on its line.
-pub(crate) fn number(out: &mut [u8; 65536], at: usize, n: u64) -> usize {
-    decimal(out, at, n, SPACE)
-}
-
-// The last number of a line.
-pub(crate) fn last(out: &mut [u8; 65536], at: usize, n: u64) -> usize {
-    decimal(out, at, n, NEWLINE)
-}
-
-// The number of a refusal, alone on its line.
-pub(crate) fn refused(out: &mut [u8; 65536], at: usize, refusal: Refusal) -> usize {
-    last(out, at, Refusal::number(refusal) as u64)
-}
-
-// A signed number with more to follow on its line.
-pub(crate) fn signed(out: &mut [u8; 65536], at: usize, z: i32) -> usize {
-    let n = arith::magnitude(z) as u64;
-    if z < 0 {
-        let next = byte(out, at, b'-');
-        return number(out, next, n);
+    pub(crate) fn clear(&mut self) {
+        self.0.clear();
     }
-    number(out, at, n)
+}
+
+impl fmt::Write for Out {
+    fn write_str(&mut self, text: &str) -> fmt::Result {
+        self.0.extend(text.as_bytes());
+        Ok(())
+    }
 }
 
 // The bits of a float, or all ones where it is a NaN, which has no bits that can be read.
-fn bits(x: f64) -> u64 {
-    if x == x {
-        return f64::to_bits(x);
+pub(crate) fn bits(x: f64) -> u64 {
+    if x.is_nan() { u64::MAX } else { x.to_bits() }
+}
+
+// The number of a refusal, alone on its line.
+pub(crate) fn refused(refusal: Refusal, out: &mut Out) -> fmt::Result {
+    let number = u8::from(refusal);
+    writeln!(out, "{number}")
+}
+
+// `refusal count` with more to follow on its line.
+pub(crate) fn counted(outcome: Result<usize, Refusal>, out: &mut Out) -> fmt::Result {
+    match outcome {
+        Ok(count) => write!(out, "0 {count} "),
+        Err(refusal) => {
+            let number = u8::from(refusal);
+            write!(out, "{number} 0 ")
+        }
     }
-    18446744073709551615
-}
-
-// A float by its bits, with more to follow on its line.
-pub(crate) fn float(out: &mut [u8; 65536], at: usize, x: f64) -> usize {
-    pattern(out, at, bits(x), SPACE)
-}
-
-// The last float of a line.
-pub(crate) fn last_float(out: &mut [u8; 65536], at: usize, x: f64) -> usize {
-    pattern(out, at, bits(x), NEWLINE)
 }

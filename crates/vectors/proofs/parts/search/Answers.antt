@@ -5,6 +5,7 @@ use Rattle.vectors.proofs.parts.search.Goals as goal
 
 pub span_about-span-requires : goal.span_about-span-requires
 span_about-span-requires c =
-    let a = c.args in
-    let n = admitted_near a.u a.v _ _ (sym c.admit.ensures.answers ∙ c.in-Near.is) in
-    (c.table_u-us.ensures, c.table_v-vs.ensures, n.first, n.last)
+    let a = c.point_of-point.result in
+    let near = c.in-Ok.near in
+    let n = admitted_near a.u a.v near.entry near.distance (sym c.admit.ensures.answers ∙ c.in-Ok.is) in
+    (n.first, n.last)
