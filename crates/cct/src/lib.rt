@@ -139,12 +139,19 @@ fn try_answer(converted: Converted, edges: &[u32], max_steps: u32) -> Result<Ans
     Ok(accepted_answer(span, p, near, edges, max_steps))
 }
 
+// The whole-number answer to what a reading was converted to. The generic functions are thin, so that the search is compiled once.
+fn answer_to(converted: Converted, edges: &[u32], max_steps: u32) -> Answer
+    ensures { result ≡ answer edges.now converted max_steps }
+{
+    try_answer(converted, edges, max_steps).unwrap_or_else(Answer::from)
+}
+
 // The whole-number answer to what a source comes to.
 pub fn whole_answer<S: Source>(source: S, edges: &[u32], max_steps: u32) -> Answer
     ensures answers { result ≡ answer edges.now (S.comes_to source) max_steps }
     ensures unchanged { edges.exit.now ≡ edges.entry.now }
 {
-    try_answer(source.convert(), edges, max_steps).unwrap_or_else(Answer::from)
+    answer_to(source.convert(), edges, max_steps)
 }
 
 // The answer to what a source comes to, with the temperature and Duv as floats.
