@@ -107,14 +107,12 @@ impl ColumnsMut<'_> {
         ensures stored { held_mut self.new ≡ stored (held_mut self.old) i r }
         ensures same { SameSlices self.new self.old }
     {
-        // Only a whole local can be stored where signed numbers lie.
-        let signed = r.duv;
         self.u[i] = r.u;
         self.v[i] = r.v;
         self.place[i] = r.place;
         self.low[i] = r.low;
         self.high[i] = r.high;
-        self.duv[i] = signed;
+        self.duv[i] = r.duv;
         self.steps[i] = r.steps;
         self.class[i] = r.class;
     }

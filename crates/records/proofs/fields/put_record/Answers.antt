@@ -1,5 +1,6 @@
 use Rattle.std.proofs.Common.{ℤ, rules, ap, ◌+◌, ◌∙◌, arith, w32, FitsSigned}
-use Rattle.arith.specs.SignedLaws.{read, back}
+use Rattle.std.proofs.lemmas.Int.{to_z-of_z}
+use mir.Val.{to_z, of_z}
 use Rattle.records.specs.Bytes.{bytes_of, as_unsigned}
 use Rattle.std.proofs.lemmas.List.Edits.{sets}
 use Rattle.records.proofs.Numbers.{bytes_2, bytes_4, signed_bytes}
@@ -16,6 +17,6 @@ returns-clause-bytes c =
     (c.put-3.ensures ∙ ap (sets _ (at + 8)) (c.to_le_bytes-3.ensures ∙ bytes_2 c.args.r.place))
     (c.put-4.ensures ∙ ap (sets _ (at + 10)) (c.to_le_bytes-4.ensures ∙ bytes_2 c.args.r.low))
     (c.put-5.ensures ∙ ap (sets _ (at + 12)) (c.to_le_bytes-5.ensures ∙ bytes_2 c.args.r.high))
-    (c.put-6.ensures ∙ ap (sets _ (at + 14)) (c.to_le_bytes-6.ensures ∙ signed_bytes (read w32 c.args.r.duv) ∙ ap (λ (z : ℤ). bytes_of 4 (as_unsigned 4 z)) (back fits)))
+    (c.put-6.ensures ∙ ap (sets _ (at + 14)) (c.to_le_bytes-6.ensures ∙ signed_bytes (to_z w32 (of_z w32 c.args.r.duv)) ∙ ap (λ (z : ℤ). bytes_of 4 (as_unsigned 4 z)) (to_z-of_z w32 c.args.r.duv fits)))
     (omega arith) (omega arith)
     c.put-7.ensures
