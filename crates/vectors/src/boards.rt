@@ -1,8 +1,9 @@
 // Boards: a history of calls of two houses on a board that is loaded from the columns held.
 ghost use Rattle.std.specs.Prelude.{◌<◌, ◌≤◌, length};
 
-use crate::checksum::{Checksum, Summed};
+use crate::checksum::{Checksum, Number, Summed};
 use crate::fields;
+use crate::fields::low_32;
 use crate::lists::Lists;
 use crate::put::Out;
 use board::{Answered, Board, Denied, Lot, Party, Told, ZERO_LOT};
@@ -51,23 +52,13 @@ fn verb_named(name: &[u8]) -> (Party, Verb) {
     }
 }
 
-// The assignments of a call, and what follows them: the stamp, the job and how many there are, unless it is one.
-fn next_assign(text: &[u8], is_one: bool) -> (Act, &[u8])
-    ensures { length result.1.now ≤ length text.now }
+// The stamp and the job after the space that a text begins with, and what follows them.
+fn next_job(text: &[u8]) -> (u16, u32, &[u8])
+    ensures { length result.2.now ≤ length text.now }
 {
     let (stamp, after_stamp) = fields::next_number(text);
-    let (job, after_job) = fields::next_number(after_stamp);
-    let (times, rest) = if is_one {
-        (1, after_job)
-    } else {
-        fields::next_number(after_job)
-    };
-    let act = Act::Assign {
-        stamp: (stamp & 0xffff) as u16,
-        job: (job & 0xffff_ffff) as u32,
-        times: (times & 0xffff_ffff) as u32,
-    };
-    (act, rest)
+    let (job, rest) = fields::next_number(after_stamp);
+    (u16::of_bits(low_32(stamp)), low_32(job), rest)
 }
 
 // The call after the space that a text begins with, and what follows it.
@@ -79,8 +70,17 @@ fn next_call(text: &[u8]) -> (Call, &[u8])
     let (place, after_place) = fields::next_number(after_word);
     let (act, rest) = match verb {
         Verb::Read => (Act::Read, after_place),
-        Verb::AssignOnce => next_assign(after_place, true),
-        Verb::AssignMany => next_assign(after_place, false),
+        Verb::AssignOnce => {
+            let (stamp, job, rest) = next_job(after_place);
+            let times = 1;
+            (Act::Assign { stamp, job, times }, rest)
+        }
+        Verb::AssignMany => {
+            let (stamp, job, after_job) = next_job(after_place);
+            let (number, rest) = fields::next_number(after_job);
+            let times = low_32(number);
+            (Act::Assign { stamp, job, times }, rest)
+        }
     };
     let call = Call {
         party,

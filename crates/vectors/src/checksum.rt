@@ -1,6 +1,7 @@
 // The checksum of an answer, and the numbers that it takes.
 ghost use Rattle.std.specs.Prelude.{◌<◌};
 
+use crate::fields::low_32;
 use std::fmt;
 
 // A checksum of numbers, below the modulus.
@@ -18,7 +19,7 @@ pub(crate) trait Summed: Copy {
 
 // A number of a target or of a column.
 pub(crate) trait Number: Summed {
-    // The number that 32 bits stand for, by its lowest bits.
+    // The number that a column or a target holds where 32 bits are put into it.
     fn of_bits(bits: u32) -> Self;
 }
 
@@ -94,8 +95,7 @@ impl Number for i32 {
 impl Summed for u64 {
     // The lower half, and then the upper one.
     fn added_to(self, sum: Checksum) -> Checksum {
-        sum.with((self & 0xffff_ffff) as u32)
-            .with((self >> 32) as u32)
+        sum.with(low_32(self)).with(low_32(self >> 32))
     }
 }
 

@@ -79,9 +79,14 @@ pub(crate) fn next_number(text: &[u8]) -> (u64, &[u8])
     (long_decimal(word), rest)
 }
 
+// The last 32 bits of a number.
+pub(crate) fn low_32(number: u64) -> u32 {
+    (number & 0xffff_ffff) as u32
+}
+
 // A decimal number; only the last 32 bits are kept.
 pub(crate) fn decimal(text: &[u8]) -> u32 {
-    (long_decimal(text) & 0xffff_ffff) as u32
+    low_32(long_decimal(text))
 }
 
 // What a field writes, and how many times it stands in a row: `TEXT` stands for TEXT once, `TEXTxK` for TEXT K times.
