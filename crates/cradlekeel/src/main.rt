@@ -3,8 +3,9 @@
 
 ghost use Rattle.std.specs.Prelude.{◌≤◌, ◌≡◌, length};
 ghost use Rattle.text.specs.Block.{line_room};
-ghost use Rattle.cradlekeel.specs.Code.Turns.{AfterBlock, AfterRead, AfterSomeRead, after_write};
+ghost use Rattle.cradlekeel.specs.Code.Turns.{AfterBlock, AfterRead, AfterSomeRead, AfterWrite, after_write};
 
+use std::fmt;
 use std::io;
 use std::io::{Read, Write};
 use std::process::ExitCode;
@@ -16,93 +17,97 @@ const BLOCK: usize = 65536;
 // The exit status where nobody reads the output any more: as if the signal for that had ended the program.
 const UNREAD: u8 = 141;
 
-// What one read of the input came to.
-#[derive(Drop)]
-enum Turn {
-    // All of its answers are written; the line so far is carried on.
-    More(Scan),
-    // The input has ended.
-    Ended,
-    // The input cannot be read or the output cannot be written, as standard error says where anybody still reads the output.
-    Failed,
+// Why the program stops before its input has ended.
+#[derive(Clone, Copy, PartialEq, Eq, Debug)]
+enum Stop {
+    NoRead,
+    NoWrite,
+    // Nobody reads the output any more.
+    Unread,
 }
 
-// Writes to standard output; answers whether all was written, and leaves in `unread` whether nobody reads it any more.
-fn write_out(rt: HostRuntime, bytes: &[u8], unread: &mut bool) -> bool {
-    match rt.stdout().write_all(bytes) {
-        Ok(()) => true,
-        Err(e) => {
-            *unread = e.kind() == io::ErrorKind::BrokenPipe;
-            false
+impl fmt::Display for Stop {
+    fn fmt<W: fmt::Write>(&self, f: &mut fmt::Formatter<W>) -> fmt::Result {
+        match self {
+            Stop::NoRead => write!(f, "cannot read standard input"),
+            Stop::NoWrite => write!(f, "cannot write standard output"),
+            Stop::Unread => write!(f, "nobody reads standard output"),
         }
     }
 }
 
-// Says on standard error what failed; where that cannot be written either, nothing is left to tell.
-fn say(rt: HostRuntime, message: &[u8]) {
-    let _ = rt.stderr().write_all(message);
+impl Stop {
+    // Says on standard error what failed, where anybody still reads the output; where that cannot be written either, nothing is left to tell.
+    fn status(self, rt: HostRuntime) -> ExitCode {
+        if self == Stop::Unread {
+            return ExitCode::from(UNREAD);
+        }
+        let _ = eprintln!(rt; "cradlekeel: {self}");
+        ExitCode::SUCCESS
+    }
 }
 
-// Carries the line on after a write, or says on standard error that the output cannot be written, where anybody still reads it.
-fn after_write(rt: HostRuntime, written: bool, unread: bool, scan: Scan) -> Turn
-    ensures { result ≡ after_write written scan }
+// Writes to standard output.
+fn write_out(rt: HostRuntime, bytes: &[u8]) -> Result<(), Stop>
+    ensures { AfterWrite result }
 {
-    if written {
-        return Turn::More(scan);
-    }
-    if !unread {
-        say(rt, b"cradlekeel: cannot write standard output\n");
-    }
-    Turn::Failed
+    rt.stdout().write_all(bytes).map_err(|e| {
+        if e.kind() == io::ErrorKind::BrokenPipe {
+            Stop::Unread
+        } else {
+            Stop::NoWrite
+        }
+    })
 }
 
-// Writes the answers to the lines that end in a block of input.
+// Carries the line on after a write, where all was written.
+fn after_write(written: Result<(), Stop>, line: Scan) -> Result<Scan, Stop>
+    ensures { result ≡ after_write written line }
+{
+    written?;
+    Ok(line)
+}
+
+// Writes the answers to the lines that end in a block of input; answers the line so far after it.
 fn answer_block(
     rt: HostRuntime,
     scan: Scan,
     input: &[u8],
     output: &mut [u8],
-    unread: &mut bool,
-) -> Turn
+) -> Result<Scan, Stop>
     requires { line_room ≤ length output.old }
     ensures { AfterBlock scan input.now result }
 {
-    let mut s = scan;
-    let mut at: usize = 0;
-    while at < input.len() {
-        let done = text::block(s, &input[at..], output);
-        let n = done.written;
-        let written = write_out(rt, &output[..n], unread);
-        let Turn::More(next) = after_write(rt, written, *unread, done.scan) else {
-            return Turn::Failed;
-        };
-        s = next;
-        at += done.read;
+    let mut line = scan;
+    let mut rest = input;
+    while !rest.is_empty() {
+        let done = text::block(line, rest, output);
+        let written = write_out(rt, &output[..done.written]);
+        line = after_write(written, done.scan)?;
+        rest = &rest[done.read..];
     }
-    Turn::More(s)
+    Ok(line)
 }
 
-// Answers what a read into the input brought, or says on standard error that it cannot be read.
+// Answers what a read into the input brought; answers the line so far after it, or none where the input has ended.
 fn answer_read(
     rt: HostRuntime,
     scan: Scan,
     input: &[u8],
     got: io::Result<usize>,
     output: &mut [u8],
-    unread: &mut bool,
-) -> Turn
+) -> Result<Option<Scan>, Stop>
     requires { line_room ≤ length output.old }
     ensures { AfterRead scan input.now got result }
 {
     let Ok(count) = got else {
-        say(rt, b"cradlekeel: cannot read standard input\n");
-        return Turn::Failed;
+        return Err(Stop::NoRead);
     };
     if count == 0 {
-        return Turn::Ended;
+        return Ok(None);
     }
-    let n = arith::lesser(count, input.len());
-    answer_block(rt, scan, &input[..n], output, unread)
+    let n = count.min(input.len());
+    Ok(Some(answer_block(rt, scan, &input[..n], output)?))
 }
 
 // Reads once, and answers what was read.
@@ -111,46 +116,34 @@ fn read_block(
     scan: Scan,
     input: &mut [u8],
     output: &mut [u8],
-    unread: &mut bool,
-) -> Turn
+) -> Result<Option<Scan>, Stop>
     requires { line_room ≤ length output.old }
     ensures { AfterSomeRead scan input.new result }
 {
     let got = rt.stdin().read(input);
-    answer_read(rt, scan, input, got, output, unread)
+    answer_read(rt, scan, input, got, output)
 }
 
-// The status of a program that has ended.
-fn status(unread: bool) -> ExitCode {
-    if unread {
-        ExitCode::from(UNREAD)
-    } else {
-        ExitCode::SUCCESS
+// Answers the whole input.
+fn answer_input(rt: HostRuntime) -> Result<(), Stop> {
+    let mut input = [0u8; BLOCK];
+    let mut output = [0u8; BLOCK];
+    let mut line = Scan::new();
+    // Nothing says that the input ends, so the reads are counted; no input takes so many.
+    for _ in 0..u64::MAX {
+        let Some(next) = read_block(rt, line, &mut input, &mut output)? else {
+            break;
+        };
+        line = next;
     }
+    let mut last = [0u8; text::LINE_ROOM];
+    let n = text::finish(line, &mut last);
+    write_out(rt, &last[..n])
 }
 
 fn main(rt: HostRuntime) -> ExitCode {
-    let mut input = [0u8; BLOCK];
-    let mut output = [0u8; BLOCK];
-    let mut scan = Scan::new();
-    let mut unread = false;
-    // Nothing says that the input ends, so the reads are counted; no input takes so many.
-    for _ in 0..u64::MAX {
-        match read_block(rt, scan, &mut input, &mut output, &mut unread) {
-            Turn::More(next) => {
-                scan = next;
-            }
-            Turn::Ended => {
-                break;
-            }
-            Turn::Failed => {
-                return status(unread);
-            }
-        }
+    match answer_input(rt) {
+        Ok(()) => ExitCode::SUCCESS,
+        Err(stop) => stop.status(rt),
     }
-    let mut last = [0u8; text::LINE_ROOM];
-    let n = text::finish(scan, &mut last);
-    let written = write_out(rt, &last[..n], &mut unread);
-    after_write(rt, written, unread, scan);
-    status(unread)
 }

@@ -1,34 +1,29 @@
 -- Each turn reads within the rest of the block, and the line carried on is that after it.
-use Rattle.std.proofs.Common.{◌≡◌, ◌-◌, Bool, true, false, ap, sym, ◌∙◌, arith, length, take, drop, length-take, length-drop, take_all}
+use Rattle.std.proofs.Common.{◌≡◌, sym, ap, ◌∙◌, ◌-◌, length, take, drop, Result, Ok, Err, arith, rules, length-drop, take_all, take-append-drop}
 use Rattle.text.specs.declared.grammar.Scan.{Scan}
-use Rattle.text.specs.BlockLaws.{block_within, block_carries}
-use Rattle.cradlekeel.specs.declared.Turn.{Turn}
-use Rattle.cradlekeel.specs.declared.Turn.TheVariants.{More, Ended, Failed}
+use Rattle.text.specs.Block.{leaves}
+use Rattle.text.specs.BlockLaws.{leaves_append, block_within}
+use Rattle.cradlekeel.specs.declared.Stop.{Stop}
 use Rattle.cradlekeel.specs.Code.Turns.{after_write}
 use Rattle.cradlekeel.proofs.answer_block.Goals as goal
 
--- the line that a turn carries on, or another where there is none
-abbrev carried_or : Scan → Turn → Scan
-carried_or other (More s) = s
-carried_or other Ended = other
-carried_or other Failed = other
-
 -- a line that is carried on after a write is the one handed over
-carried : (written : Bool) {s next : Scan} → after_write written s ≡ More next → next ≡ s
-carried true {s} e = sym (ap (carried_or s) e)
-carried false {s} e = ap (carried_or s) (sym e)
+handed_over : (written : Result (Unit {0}) Stop) {s line : Scan} → Ok line ≡ after_write written s → line ≡ s
+handed_over (Ok u) e = cc
+handed_over (Err stop) e = cc
 
-pub overflow_add-at : goal.overflow_add-at
-overflow_add-at c =
-    omega (arith, simp (length-take, length-drop) at (block_within c.block-done.ensures.result))
+pub slice_bounds-rest-count : goal.slice_bounds-rest-count
+slice_bounds-rest-count c = block_within c.block-done.ensures.result
 
-pub loop-at-preserved : goal.loop-at-preserved
-loop-at-preserved c =
-    let b = c.block-done.ensures.result in
-    let l = c.loop-at in
-    let input = c.args.input.now in
-    let rest : take (length input - l.at) (drop l.at input) ≡ drop l.at input =
-    take_all (length input - l.at) (drop l.at input) (omega (arith, length-drop l.at input)) in (
-      omega (arith, simp (length-take, length-drop) at (block_within b)),
-      carried c.write_out-written.result (sym c.in-More.ensures) ∙ block_carries c.args.scan input l.at l.invariant.1 rest b,
-    )
+pub slice_bounds-rest-start : goal.slice_bounds-rest-start
+slice_bounds-rest-start c = let h = block_within c.block-done.ensures.result in search (rules, h)
+
+pub loop-rest-preserved : goal.loop-rest-preserved
+loop-rest-preserved c =
+    let line = c.loop-rest.line in
+    let rest = c.loop-rest.rest.now in
+    let n = c.block-done.result.read in
+    let left : take (length rest - n) (drop n rest) ≡ drop n rest = take_all (length rest - n) (drop n rest) (omega (arith, length-drop n rest)) in
+    ap (leaves c.in_ok-line.line) left
+    ∙ ap (λ (s : Scan). leaves s (drop n rest)) (handed_over c.write_out-written.result c.in_ok-line.ensures ∙ c.block-done.ensures.result.scan)
+    ∙ sym (leaves_append line (take n rest) (drop n rest)) ∙ ap (leaves line) (take-append-drop n rest) ∙ c.loop-rest.invariant

@@ -1,10 +1,10 @@
--- The line so far is that after the bytes passed; each turn reads at least one byte, since the output has room for an answer.
-use Rattle.std.proofs.Common.{◌≡◌, ◌-◌, ◌≤◌, length, take}
+-- The line so far, carried over the rest of the block, is that after the block; each turn reads at least one byte, since the output has room for an answer.
+use Rattle.std.proofs.Common.{◌≡◌, length}
 use Rattle.text.specs.Block.{leaves}
 use Rattle.cradlekeel.proofs.answer_block.Given as goal
 
-abbrev pub invariant-loop-at : goal.invariant-loop-at
-invariant-loop-at l = (l.at ≤ length l.input) × (l.s ≡ leaves l.initial.s (take l.at l.input))
+abbrev pub invariant-loop-rest : goal.invariant-loop-rest
+invariant-loop-rest l = leaves l.line l.rest ≡ leaves l.fn.scan l.input
 
-abbrev pub decreases-loop-at : goal.decreases-loop-at
-decreases-loop-at l = length l.input - l.at
+abbrev pub decreases-loop-rest : goal.decreases-loop-rest
+decreases-loop-rest l = length l.rest
