@@ -1,7 +1,6 @@
 -- What holds of a block after some of its bytes, and one byte more.
 use Rattle.std.proofs.Common.{◌≡◌, ℕ, ◌+◌, ◌-◌, ◌≤◌, ◌<◌, List, ◌++◌, length, get_or, take, drop, ap, sym, ◌∙◌, arith}
 use Rattle.text.specs.declared.grammar.Scan.{Scan}
-use Rattle.text.specs.declared.stream.Done.{Done}
 use Rattle.text.specs.Wrote.{Wrote}
 use Rattle.text.specs.WroteLaws.{wrote_length, wrote_then, wrote_as}
 use Rattle.text.specs.Block.{emitted, next_scan, emits, leaves, line_room, reads, Blocked}

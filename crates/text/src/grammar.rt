@@ -71,7 +71,7 @@ impl Numbers {
             return None;
         }
         Some(Self {
-            current: 10 * self.current + d as u32,
+            current: 10 * self.current + u32::from(d),
             digits: self.digits + 1,
             ..self
         })
