@@ -1,6 +1,6 @@
 // What a line of the input says, read a byte at a time.
 ghost use Rattle.std.specs.Prelude.{◌≡◌, ◌≤◌};
-ghost use Rattle.text.specs.Code.Scan.{no_numbers, after_space, after_digit, after_byte, asked, empty_scan, scan_byte, is_empty, scan_line};
+ghost use Rattle.text.specs.Code.Scan.{after_space, after_digit, after_byte, asked, empty_scan, scan_byte, is_empty, scan_line};
 
 use refusal::Refusal;
 
@@ -25,7 +25,7 @@ pub(crate) const DIGIT_ZERO: u8 = b'0';
 const DIGIT_NINE: u8 = b'9';
 
 // The numbers of a line: how many are before the one being read, the two last of those, and that one with how many digits are read.
-#[derive(Clone, Copy)]
+#[derive(Clone, Copy, Default)]
 struct Numbers {
     earlier: u32,
     previous: u32,
@@ -35,18 +35,6 @@ struct Numbers {
 }
 
 impl Numbers {
-    fn new() -> Self
-        ensures { result ≡ no_numbers }
-    {
-        Self {
-            earlier: 0,
-            previous: 0,
-            current: 0,
-            spaces: 0,
-            digits: 0,
-        }
-    }
-
     fn space(self) -> Option<Self>
         ensures { result ≡ after_space self }
     {
@@ -121,7 +109,7 @@ impl Scan {
         ensures { result ≡ empty_scan }
     {
         Self {
-            numbers: Some(Numbers::new()),
+            numbers: Some(Numbers::default()),
         }
     }
 

@@ -95,26 +95,26 @@ impl<'a> Output<'a> {
     }
 
     // The first half of an accepted answer: 0, the place and the bracket.
-    fn places(&mut self, place: u32, low: u32, high: u32)
+    fn places(&mut self, answer: Answer)
         requires { Room self.old 34 }
-        ensures { Put self.old self.new (places_text place low high) }
+        ensures { Put self.old self.new (places_text answer.place answer.low answer.high) }
     {
         self.byte(DIGIT_ZERO);
-        self.field(place);
-        self.field(low);
-        self.field(high);
+        self.field(answer.place);
+        self.field(answer.low);
+        self.field(answer.high);
     }
 
     // The second half: Duv, the steps and the class.
-    fn rest(&mut self, duv: i32, steps: u8, class: u8)
+    fn rest(&mut self, answer: Answer)
         requires { Room self.old 34 }
-        ensures { Put self.old self.new (rest_text duv steps class) }
+        ensures { Put self.old self.new (rest_text answer.duv answer.steps answer.class) }
     {
         self.byte(SPACE);
-        self.signed(duv);
-        self.field(steps as u32);
+        self.signed(answer.duv);
+        self.field(answer.steps as u32);
         self.byte(SPACE);
-        self.class(class);
+        self.class(answer.class);
     }
 
     // An answer.
@@ -123,8 +123,8 @@ impl<'a> Output<'a> {
         ensures { Put self.old self.new (answer_text answer) }
     {
         if answer.refusal == 0 {
-            self.places(answer.place, answer.low, answer.high);
-            return self.rest(answer.duv, answer.steps, answer.class);
+            self.places(answer);
+            return self.rest(answer);
         }
         self.number(answer.refusal as u32);
     }
