@@ -13,10 +13,6 @@ use Rattle.compare.specs.Code.Puts.{Put}
 pub put_length : {old new : List ℤ} {at end : ℕ} {es : List Entry} → Put old new at end es → length new ≡ length old
 put_length {old} {at = at} {es = es} p = ap length p.target ∙ length-sets old at (numbers es)
 
--- no entry
-pub put_none : (old : List ℤ) (at : ℕ) → Put old old at at []
-put_none old at = record { target = refl; next = omega arith }
-
 numbers_append : (es fs : List Entry) → numbers (es ++ fs) ≡ numbers es ++ numbers fs
 numbers_append [] fs = refl
 numbers_append (e ∷ es) fs = rw (numbers_append es fs) refl

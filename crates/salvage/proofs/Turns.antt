@@ -34,9 +34,6 @@ module _ (es : List ℕ) (r : Record) (i : ℕ) where
           to_list = rw one.1 refl;
         }
 
-    pub room_in_list : matches es r ≡ false → i - kept < length list
-    room_in_list e = omega (arith, h.in_list, ap length (one_dropped e).1)
-
     pub adds_dropped : matches es r ≡ false → Adds es r i kept file file list (set list (i - kept) i) kept
     adds_dropped e =
         let one = one_dropped e in

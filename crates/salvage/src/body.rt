@@ -103,6 +103,7 @@ impl<'a> Body<'a> {
     {
         self.check_targets(file.len(), dropped.len())?;
         let kept = self.sort(file, dropped);
+        // The file has room, so no trailer is refused.
         let _ = records::close_file(kept, file);
         Ok(Salvaged {
             kept,
