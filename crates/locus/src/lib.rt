@@ -168,7 +168,7 @@ impl Curve {
     }
 }
 
-// The square of the difference of two numbers.
+// The square of the difference of two numbers. The difference has its sign here: by `abs_diff` an admission takes a third longer.
 pub fn squared_difference(x: u32, y: u32) -> u64
     requires { (x ≤ far_out) × (y ≤ far_out) }
     ensures { result ≡ difference x y * difference x y }
