@@ -7,13 +7,10 @@ use Rattle.reading.proofs.Quantity.is_in_range.Goals as goal
 
 pub returns-then-x : goal.returns-then-x
 unfolding of_bits neg
-returns-then-x c =
-    let a = c.args in
-    below_zero_same a.self a.x c.exact_product.result c.exact_product.ensures c.if-x.true
+returns-then-x c = cc (below_zero_same c.args.self c.args.x c.exact_product.result c.exact_product.ensures c.if-x.true)
 
 pub returns-else-x : goal.returns-else-x
 unfolding of_bits
 returns-else-x c =
-    let t = c in
-    let a = t.args in
-    from_zero_same a.self a.x (of_int binary32 (pos a.self.bound)) t.requires.bound_nonzero (whole_float binary32 a.self.bound (omega arith)) c.if-x.false
+    let a = c.args in
+    cc (from_zero_same a.self a.x (of_int binary32 (pos a.self.bound)) c.requires.bound_nonzero (whole_float binary32 a.self.bound (omega arith)) c.if-x.false)

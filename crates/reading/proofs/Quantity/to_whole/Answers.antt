@@ -1,5 +1,5 @@
 -- `to_whole` meets its contract: the exact product is cut to a whole number of halves, and half of one more is the definition's.
-use Rattle.std.proofs.Common.{ℕ, ◌+◌, ◌/◌, ap, ◌∙◌, arith}
+use Rattle.std.proofs.Common.{◌∙◌, arith}
 use Rattle.reading.specs.WholeLaws.{range_finite}
 use Rattle.reading.proofs.Range.{is_finite_same}
 use Rattle.reading.proofs.Halves.{halves}
@@ -21,8 +21,7 @@ pub overflow_cast-result : goal.overflow_cast-result
 overflow_cast-result c = omega (arith, (halves _ c.requires.whole_bound _ _ c.requires.x_value c.exact_product.ensures).small)
 
 pub returns-clause-whole : goal.returns-clause-whole
-returns-clause-whole c =
-    ap (λ (n : ℕ). (n + 1) / 2) c.truncating_f64_to_u64-halves.ensures ∙ (halves _ c.requires.whole_bound _ _ c.requires.x_value c.exact_product.ensures).whole
+returns-clause-whole c = cc (halves _ c.requires.whole_bound _ _ c.requires.x_value c.exact_product.ensures).whole
 
 pub returns-clause-most : goal.returns-clause-most
 returns-clause-most c = omega (arith, (halves _ c.requires.whole_bound _ _ c.requires.x_value c.exact_product.ensures).small)
