@@ -1,16 +1,9 @@
-// Whole-number arithmetic: the lesser number, the rounded quotient, the square root and the magnitude.
+// Whole-number arithmetic: the rounded quotient and the square root.
 #![tactic(auto)]
 
 ghost use Rattle.std.specs.Prelude.{◌≡◌, ◌+◌, ◌*◌, ◌^◌, ◌≤◌, ◌<◌, min, nat_abs};
 ghost use Rattle.arith.specs.Rounding.{nearest_quotient};
 ghost use Rattle.arith.specs.Root.{root};
-
-// The lesser of two numbers.
-pub fn lesser(a: usize, b: usize) -> usize
-    ensures { result ≡ min a b }
-{
-    if a < b { a } else { b }
-}
 
 // a / b to the nearest whole number, halves up; 0 where b is 0. The remainder decides, so that nothing can overflow.
 pub fn nearest_quotient(a: u64, b: u64) -> u64
@@ -61,14 +54,4 @@ pub fn integer_root(n: u64) -> u32
         return root_by_bits(n, 16);
     }
     root_by_bits(n, 32)
-}
-
-// How far z is from zero.
-pub fn magnitude(z: i32) -> u32
-    ensures { result ≡ nat_abs z }
-{
-    if z < 0 {
-        return (0 - z as i64) as u32;
-    }
-    z as u32
 }
