@@ -1,7 +1,7 @@
 // Whole-number arithmetic: the rounded quotient and the square root.
 #![tactic(auto)]
 
-ghost use Rattle.std.specs.Prelude.{◌≡◌, ◌+◌, ◌*◌, ◌^◌, ◌≤◌, ◌<◌, min, nat_abs};
+ghost use Rattle.std.specs.Prelude.{◌≡◌, ◌+◌, ◌*◌, ◌^◌, ◌≤◌, ◌<◌};
 ghost use Rattle.arith.specs.Rounding.{nearest_quotient};
 ghost use Rattle.arith.specs.Root.{root};
 
