@@ -64,8 +64,8 @@ impl From<Answer> for FloatAnswer {
     fn from(answer: Answer) -> FloatAnswer {
         if answer.refusal == 0 {
             FloatAnswer {
-                kelvin: (classes::KELVIN_PLACES as f64) / (answer.place as f64),
-                duv: (answer.duv as f64) / (reading::MICRO as f64),
+                kelvin: (classes::KELVIN_PLACES as f64) / f64::from(answer.place),
+                duv: f64::from(answer.duv) / f64::from(reading::MICRO),
                 whole: answer,
             }
         } else {
