@@ -1,5 +1,5 @@
 -- `try_coarse` may look for the nearest ready place: some ready point is within the distance of an admitted reading's entry.
-use Rattle.std.proofs.Common.{sym}
+use Rattle.std.proofs.Common.{sym, rules}
 use Rattle.locus.specs.AdmissionLaws.{admitted_near}
 use Rattle.table.specs.ScanLaws.{admitted_within}
 use Rattle.nearest.proofs.try_coarse.Goals as goal
@@ -10,4 +10,5 @@ nearest-requires c =
     let near = c.in_ok-near.near in
     let e = sym c.in_ok-near.ensures.answers in
     let n = admitted_near p.u p.v near.entry near.distance e in
-    (n.u_small, n.v_small, n.within, admitted_within p.u p.v near.entry near.distance e)
+    let w = admitted_within p.u p.v near.entry near.distance e in
+    search rules
