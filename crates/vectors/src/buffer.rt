@@ -26,6 +26,13 @@ impl<T: Copy, const N: usize> Buffer<T, N> {
         &self.room[..self.len]
     }
 
+    pub(crate) fn items_mut(&mut self) -> &mut [T] {
+        let count = self.len;
+        let room = &mut self.room;
+        let all = &mut room[..];
+        &mut all[..count]
+    }
+
     pub(crate) fn clear(&mut self) {
         self.len = 0;
     }

@@ -1,6 +1,7 @@
 // Comparisons: the differences of the first file and the file that is held, listed in a target.
+use crate::buffer::Buffer;
 use crate::put::Out;
-use crate::targets::{checksum, patterned};
+use crate::targets::{checksum, put_pattern};
 use compare::NotCompared;
 use refusal::Refusal;
 use std::fmt;
@@ -32,9 +33,10 @@ fn put_compared(compared: Result<usize, NotCompared>, out: &mut Out) -> fmt::Res
 
 // `file refusal count checksum` of comparing two files, with room for so many numbers.
 pub(crate) fn compare(first: &[u8], second: &[u8], room: u32, out: &mut Out) -> fmt::Result {
-    let mut target = [0i64; LIST_ROOM];
-    let compared = compare::compare_files(first, second, patterned(&mut target, room));
+    let mut target = Buffer::<i64, LIST_ROOM>::new(0);
+    put_pattern(&mut target, room);
+    let compared = compare::compare_files(first, second, target.items_mut());
     put_compared(compared, out)?;
-    let sum = checksum(&target, room);
+    let sum = checksum(&target);
     writeln!(out, "{sum}")
 }

@@ -3,7 +3,7 @@ use crate::buffer::Buffer;
 use crate::fields::Numbers;
 use crate::lists::Lists;
 use crate::put::Out;
-use crate::targets::{checksum, patterned};
+use crate::targets::{checksum, put_pattern};
 use crate::{fields, put};
 use records::{ColumnsMut, Record};
 use std::fmt;
@@ -20,6 +20,9 @@ const READ_ROOM: usize = 4096;
 
 // The file that is held.
 pub(crate) type File = Buffer<u8, HELD_ROOM>;
+
+// A column that a file is read into.
+type Target<T> = Buffer<T, READ_ROOM>;
 
 // Adds the bytes of a word of hexadecimal digits.
 fn add_pairs(file: &mut File, digits: &[u8]) {
@@ -47,14 +50,15 @@ pub(crate) fn replace(file: &mut File, text: &[u8]) -> usize {
 
 // `refusal count checksum` of writing the columns that are held; what is written is then the file that is held.
 pub(crate) fn write(room: u32, lists: &Lists, file: &mut File, out: &mut Out) -> fmt::Result {
-    let mut target = [0u8; WRITE_ROOM];
-    let written = records::write_records(lists.columns(), patterned(&mut target, room));
+    let mut target = Buffer::<u8, WRITE_ROOM>::new(0);
+    put_pattern(&mut target, room);
+    let written = records::write_records(lists.columns(), target.items_mut());
     if let Ok(count) = written {
         file.clear();
-        file.extend(&target[..count.min(WRITE_ROOM)]);
+        file.extend(target.items().get(..count).unwrap_or(&[]));
     }
     put::counted(written, out)?;
-    let sum = checksum(&target, room);
+    let sum = checksum(&target);
     writeln!(out, "{sum}")
 }
 
@@ -80,33 +84,35 @@ pub(crate) fn record(file: &[u8], index: u64, out: &mut Out) -> fmt::Result {
 
 // `refusal count` and eight checksums of reading the file into columns of eight rooms.
 pub(crate) fn read(file: &[u8], rooms: &Numbers, out: &mut Out) -> fmt::Result {
-    let mut u = [0u32; READ_ROOM];
-    let mut v = [0u32; READ_ROOM];
-    let mut place = [0u16; READ_ROOM];
-    let mut low = [0u16; READ_ROOM];
-    let mut high = [0u16; READ_ROOM];
-    let mut duv = [0i32; READ_ROOM];
-    let mut steps = [0u8; READ_ROOM];
-    let mut class = [0u8; READ_ROOM];
+    let mut u = Target::<u32>::new(0);
+    put_pattern(&mut u, rooms.at(0));
+    let mut v = Target::<u32>::new(0);
+    put_pattern(&mut v, rooms.at(1));
+    let mut place = Target::<u16>::new(0);
+    put_pattern(&mut place, rooms.at(2));
+    let mut low = Target::<u16>::new(0);
+    put_pattern(&mut low, rooms.at(3));
+    let mut high = Target::<u16>::new(0);
+    put_pattern(&mut high, rooms.at(4));
+    let mut duv = Target::<i32>::new(0);
+    put_pattern(&mut duv, rooms.at(5));
+    let mut steps = Target::<u8>::new(0);
+    put_pattern(&mut steps, rooms.at(6));
+    let mut class = Target::<u8>::new(0);
+    put_pattern(&mut class, rooms.at(7));
     let mut columns = ColumnsMut {
-        u: patterned(&mut u, rooms.at(0)),
-        v: patterned(&mut v, rooms.at(1)),
-        place: patterned(&mut place, rooms.at(2)),
-        low: patterned(&mut low, rooms.at(3)),
-        high: patterned(&mut high, rooms.at(4)),
-        duv: patterned(&mut duv, rooms.at(5)),
-        steps: patterned(&mut steps, rooms.at(6)),
-        class: patterned(&mut class, rooms.at(7)),
+        u: u.items_mut(),
+        v: v.items_mut(),
+        place: place.items_mut(),
+        low: low.items_mut(),
+        high: high.items_mut(),
+        duv: duv.items_mut(),
+        steps: steps.items_mut(),
+        class: class.items_mut(),
     };
     put::counted(records::read_records(file, &mut columns), out)?;
-    let u_sum = checksum(&u, rooms.at(0));
-    let v_sum = checksum(&v, rooms.at(1));
-    let place_sum = checksum(&place, rooms.at(2));
-    let low_sum = checksum(&low, rooms.at(3));
-    let high_sum = checksum(&high, rooms.at(4));
-    let duv_sum = checksum(&duv, rooms.at(5));
-    let steps_sum = checksum(&steps, rooms.at(6));
-    let class_sum = checksum(&class, rooms.at(7));
-    write!(out, "{u_sum} {v_sum} {place_sum} {low_sum} ")?;
-    writeln!(out, "{high_sum} {duv_sum} {steps_sum} {class_sum}")
+    write!(out, "{} {} ", checksum(&u), checksum(&v))?;
+    write!(out, "{} {} ", checksum(&place), checksum(&low))?;
+    write!(out, "{} {} ", checksum(&high), checksum(&duv))?;
+    writeln!(out, "{} {}", checksum(&steps), checksum(&class))
 }

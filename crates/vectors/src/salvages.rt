@@ -1,8 +1,9 @@
 // Salvage: the records of the file that is held, by a record length and edges, into two targets.
+use crate::buffer::Buffer;
 use crate::fields;
 use crate::fields::Numbers;
 use crate::put::Out;
-use crate::targets::{checksum, patterned};
+use crate::targets::{checksum, put_pattern};
 use refusal::Refusal;
 use salvage::Salvaged;
 use std::fmt;
@@ -26,19 +27,17 @@ fn put_salvaged(salvaged: Result<Salvaged, Refusal>, out: &mut Out) -> fmt::Resu
 // 64 bits, and the numbers are that, the rooms of the new file and of the list, and the edges.
 pub(crate) fn salvage(bytes: &[u8], text: &[u8], numbers: &Numbers, out: &mut Out) -> fmt::Result {
     let (record_length, _) = fields::next_number(text);
-    let file_room = numbers.at(1);
-    let list_room = numbers.at(2);
-    let mut file = [0u8; FILE_ROOM];
-    let mut list = [0u64; LIST_ROOM];
+    let mut file = Buffer::<u8, FILE_ROOM>::new(0);
+    let mut list = Buffer::<u64, LIST_ROOM>::new(0);
+    put_pattern(&mut file, numbers.at(1));
+    put_pattern(&mut list, numbers.at(2));
     let salvaged = salvage::salvage(
         bytes,
         record_length as usize,
         numbers.from(3),
-        patterned(&mut file, file_room),
-        patterned(&mut list, list_room),
+        file.items_mut(),
+        list.items_mut(),
     );
     put_salvaged(salvaged, out)?;
-    let file_sum = checksum(&file, file_room);
-    let list_sum = checksum(&list, list_room);
-    writeln!(out, "{file_sum} {list_sum}")
+    writeln!(out, "{} {}", checksum(&file), checksum(&list))
 }
