@@ -5,10 +5,9 @@ ghost use Rattle.std.specs.Prelude.{◌≤◌, ◌≡◌, length};
 ghost use Rattle.text.specs.Block.{line_room};
 ghost use Rattle.cradlekeel.specs.Code.Turns.{AfterBlock, AfterRead, AfterSomeRead, AfterWrite, after_write};
 
-use std::fmt;
-use std::io;
 use std::io::{Read, Write};
 use std::process::ExitCode;
+use std::{fmt, io};
 use text::Scan;
 
 // How many bytes a read takes, and how many bytes of answers are written at once, at the most.
@@ -69,12 +68,7 @@ fn after_write(written: Result<(), Stop>, line: Scan) -> Result<Scan, Stop>
 }
 
 // Writes the answers to the lines that end in a block of input; answers the line so far after it.
-fn answer_block(
-    rt: HostRuntime,
-    scan: Scan,
-    input: &[u8],
-    output: &mut [u8],
-) -> Result<Scan, Stop>
+fn answer_block(rt: HostRuntime, scan: Scan, input: &[u8], output: &mut [u8]) -> Result<Scan, Stop>
     requires { line_room ≤ length output.old }
     ensures { AfterBlock scan input.now result }
 {
