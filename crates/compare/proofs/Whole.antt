@@ -39,6 +39,10 @@ module _ (a b : List ℕ) where
   pub both_most : length all ≤ field_count * min m n
   both_most = in_step_length of_record field_count length_of_record 0 (min m n) (records_of a) (records_of b) (omega arith)
 
+  -- no more than all that could differ
+  pub parts_most : (both : ℕ) → both ≡ min m n → length (file_differences a b) ≤ field_count * both + ((m - both) + (n - both))
+  parts_most both e = rw e (omega (arith, parts_length, both_most))
+
   -- record i of each comes next
   module _ (i : ℕ) (h : i < min m n) (r s : Record) (e : r ≡ get_or (records_of a) i zero_record) (f : s ≡ get_or (records_of b) i zero_record) where
     pub next_length : length (entries_to (i + 1) a b) ≡ length (entries_to i a b) + length (of_record 0 r s)

@@ -1,6 +1,6 @@
 -- Numbers in bytes, as arrays of bytes hold them.
 use mathlib.Core.Path.{◌≡◌, refl, ap, sym, ◌∙◌}
-use Prim.Native.Nat.{ℕ, ◌+◌, ◌-◌, ◌≤◌, ◌<◌}
+use Prim.Native.Nat.{ℕ, zero, suc, ◌+◌, ◌-◌, ◌*◌, ◌≤◌, ◌<◌}
 use mathlib.Core.List.{List, [], ◌∷◌, ◌++◌, append_assoc}
 use native.Mathlib.Omega.{arith}
 use lib.ListN.{length, take, drop, get_or, length-take, length-drop}
@@ -11,7 +11,7 @@ use mir.Val.{Fits}
 use borrow.Rule.Slice.PartMut.{put_mid}
 use Rattle.std.specs.Int.{to_le_bytes, from_le_bytes, cast_unsigned}
 use Rattle.std.proofs.lemmas.List.Edits.{sets-eq}
-use Rattle.records.specs.Bytes.{bytes_of, number, as_unsigned, as_signed}
+use Rattle.records.specs.Bytes.{bytes_of, number, capacity, as_unsigned, as_signed}
 use Rattle.records.specs.BytesLaws.{Bytes}
 use Rattle.records.specs.Fields.{front_record}
 
@@ -60,7 +60,21 @@ field_4 at l {bs} f e h = f ∙ number_4 bs (taken 4 at l bs e h) ∙ ap number 
 pub byte_field : (at k : ℕ) (l : List ℕ) → k ≡ at → at < length l → get_or l k 0 ≡ number (take 1 (drop at l))
 byte_field at k l e h = rw (e, drop-cons l at 0 h) (omega arith)
 
--- what is known of each byte of a slice, and so of a number in it
+-- the number read so far, and one byte more, fit
+three_bytes : (w : ℕ) → w ≤ 3 → capacity w ≤ 16777216
+three_bytes zero h = omega arith
+three_bytes (suc zero) h = omega arith
+three_bytes (suc (suc zero)) h = omega arith
+three_bytes (suc (suc (suc zero))) h = omega arith
+three_bytes (suc (suc (suc (suc w)))) h = absurd (omega arith)
+
+pub room_for_byte : (i width n : ℕ) → 0 < i → width ≤ 4 → n < capacity (width - i) → n < 16777216
+room_for_byte i width n p h s = let k = three_bytes (width - i) (omega arith) in omega arith
+
+pub read_fits : (i width n b : ℕ) → 0 < i → i ≤ width → n < capacity (width - i) → b < 256 → 256 * n + b < capacity (width - (i - 1))
+read_fits i width n b p h s t = let k : width - (i - 1) ≡ suc (width - i) = omega arith in rw k (omega arith)
+
+-- what is known of each byte of a slice
 pub each_byte : (l : List ℕ) → ((i : ℕ) → Fits w8 (get_or l i 0)) → Bytes l
 each_byte l h i = (h i).fits
 

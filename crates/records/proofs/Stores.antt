@@ -16,28 +16,41 @@ use Rattle.records.specs.ColumnsLaws.{length_rows}
 use Rattle.records.specs.StoreLaws.{then, records_stored}
 use Rattle.records.specs.declared.fields.Record.{Record}
 
--- the numbers of a record
-pub record_stored : (o : List ℕ) {o1 o2 o3 o4 o5 o6 o7 : List ℕ} (r : Record) (at : ℕ) →
+-- the numbers of a record, whose Duv is n as an unsigned number
+pub record_stored : (o : List ℕ) {o1 o2 o3 o4 o5 o6 o7 o8 : List ℕ} (r : Record) (at n : ℕ) → n ≡ as_unsigned duv_width r.duv →
     o1 ≡ sets o at (bytes_of 4 r.u) → o2 ≡ sets o1 (at + 4) (bytes_of 4 r.v) → o3 ≡ sets o2 (at + 8) (bytes_of 2 r.place) →
-    o4 ≡ sets o3 (at + 10) (bytes_of 2 r.low) → o5 ≡ sets o4 (at + 12) (bytes_of 2 r.high) → o6 ≡ sets o5 (at + 14) (bytes_of duv_width (as_unsigned duv_width r.duv)) →
-    r.steps < 256 → r.class < 256 → o7 ≡ sets o6 (at + 18) (r.steps ∷ r.class ∷ []) → o7 ≡ sets o at (record_bytes duv_width r)
+    o4 ≡ sets o3 (at + 10) (bytes_of 2 r.low) → o5 ≡ sets o4 (at + 12) (bytes_of 2 r.high) → o6 ≡ sets o5 (at + 14) (bytes_of duv_width n) →
+    o7 ≡ sets o6 (at + 18) (bytes_of 1 r.steps) → o8 ≡ sets o7 (at + 19) (bytes_of 1 r.class) → o8 ≡ sets o at (record_bytes duv_width r)
 unfolding record_bytes
-record_stored o {o6 = o6} r at e1 e2 e3 e4 e5 e6 s c e7 =
+record_stored o {o5 = o5} {o6 = o6} r at n e e1 e2 e3 e4 e5 e6 e7 e8 =
     let b1 = bytes_of 4 r.u in
     let b2 = b1 ++ bytes_of 4 r.v in
     let b3 = b2 ++ bytes_of 2 r.place in
     let b4 = b3 ++ bytes_of 2 r.low in
     let b5 = b4 ++ bytes_of 2 r.high in
     let b6 = b5 ++ bytes_of duv_width (as_unsigned duv_width r.duv) in
+    let b7 = b6 ++ bytes_of 1 r.steps in
+    let f6 : o6 ≡ sets o5 (at + 14) (bytes_of duv_width (as_unsigned duv_width r.duv)) = e6 ∙ ap (λ (m : ℕ). sets o5 (at + 14) (bytes_of duv_width m)) e in
     let s2 = then o at (at + 4) b1 (bytes_of 4 r.v) e1 e2 refl in
     let s3 = then o at (at + 8) b2 (bytes_of 2 r.place) s2 e3 refl in
     let s4 = then o at (at + 10) b3 (bytes_of 2 r.low) s3 e4 refl in
     let s5 = then o at (at + 12) b4 (bytes_of 2 r.high) s4 e5 refl in
-    let s6 = then o at (at + 14) b5 (bytes_of duv_width (as_unsigned duv_width r.duv)) s5 e6 refl in
+    let s6 = then o at (at + 14) b5 (bytes_of duv_width (as_unsigned duv_width r.duv)) s5 f6 refl in
+    let s7 = then o at (at + 18) b6 (bytes_of 1 r.steps) s6 e7 refl in
+    then o at (at + 19) b7 (bytes_of 1 r.class) s7 e8 refl
+
+-- the same, with the steps and the class, which are bytes, stored at once
+pub record_put : (o : List ℕ) {o1 o2 o3 o4 o5 o6 o7 : List ℕ} (r : Record) (at : ℕ) →
+    o1 ≡ sets o at (bytes_of 4 r.u) → o2 ≡ sets o1 (at + 4) (bytes_of 4 r.v) → o3 ≡ sets o2 (at + 8) (bytes_of 2 r.place) →
+    o4 ≡ sets o3 (at + 10) (bytes_of 2 r.low) → o5 ≡ sets o4 (at + 12) (bytes_of 2 r.high) → o6 ≡ sets o5 (at + 14) (bytes_of duv_width (as_unsigned duv_width r.duv)) →
+    r.steps < 256 → r.class < 256 → o7 ≡ sets o6 (at + 18) (r.steps ∷ r.class ∷ []) → o7 ≡ sets o at (record_bytes duv_width r)
+record_put o {o6 = o6} r at e1 e2 e3 e4 e5 e6 s c e7 =
     let steps : r.steps ≡ r.steps % 256 = omega arith in
     let class : r.class ≡ r.class % 256 = omega arith in
     let f7 : _ ≡ sets o6 (at + 18) (bytes_of 1 r.steps ++ bytes_of 1 r.class) = e7 ∙ (λ i. sets o6 (at + 18) (steps i ∷ class i ∷ [])) in
-    then o at (at + 18) b6 (bytes_of 1 r.steps ++ bytes_of 1 r.class) s6 f7 refl
+    let next : at + 19 ≡ at + 18 + 1 = omega arith in
+    let both = then o6 (at + 18) (at + 19) (bytes_of 1 r.steps) (bytes_of 1 r.class) refl refl next in
+    f7 ∙ sym both ∙ record_stored o r at (as_unsigned duv_width r.duv) refl e1 e2 e3 e4 e5 e6 refl refl
 
 -- the numbers of a trailer
 pub trailer_stored : (o : List ℕ) {o1 o2 o3 : List ℕ} (at n : ℕ) → o1 ≡ sets o at (bytes_of 2 20) → o2 ≡ sets o1 (at + 2) (bytes_of 2 n) → o3 ≡ sets o2 (at + 4) (bytes_of 4 (20 * n)) → o3 ≡ sets o at (trailer_bytes duv_width n)
