@@ -66,7 +66,7 @@ impl<'a> Samples<'a> {
             & all_at_most(self.z_bar, TABLE_LIMIT)
     }
 
-    // X, Y and Z: the sums of the products of the samples with each table, in one pass, which takes four fifths of the time of a chain for each.
+    // X, Y and Z: the sums of the products of the samples with each table, in one pass, which takes less time than a chain for each.
     fn sums(&self) -> Tristimulus
         requires { Sound self.now.samples.now self.now.x_bar.now self.now.y_bar.now self.now.z_bar.now }
         ensures { result ≡ sums self.now.samples.now self.now.x_bar.now self.now.y_bar.now self.now.z_bar.now }
