@@ -7,7 +7,8 @@ Of every public function, and of every one that a public trait declares: it has 
 `result ≡ ..`; it has no `requires`; what is lent by `&` is said to be unchanged, `x.exit.now ≡ x.entry.now`, in a promise of its own,
 as one of several joined by `×` or as one of `columns`, and what columns hold as `held x.exit ≡ held x.entry`; what is lent by `&mut`
 is spoken of as `.new`; docs/TRACE.md names it. Every promise is an equation: of the result, of what `&mut` lends as it is at the
-end, or of what `&` lends as unchanged. Of those of an entry crate also: each parameter is spoken of. What departs from this stands
+end, or of what `&` lends as unchanged. Of each impl of From, TryFrom and Source: what it gives is an equation in its ghost member, what
+`Samples` lends is said to be unchanged, and docs/TRACE.md names its function. Of the functions of an entry crate also: each parameter is spoken of. What departs from this stands
 below with its reason and must still be needed; a promise that is no equation, and a `requires` of an entry crate, must be, word for
 word, the one that stands here. Of the functions in WITHOUT_MULTIPLY, and of all that they call: no body has a `*`, a `/` or a `%`,
 and all that is called is of their own crate, by its plain name. Of those in WITHOUT_DIVISION: no body has a `/` or a `%`, in whatever
@@ -21,7 +22,7 @@ from typing import NamedTuple
 sys.dont_write_bytecode = True
 
 from check_trace import TRACE, named_functions
-from rattle_source import functions, functions_of, library_crates
+from rattle_source import functions, functions_of, impls, impls_of, library_crates
 
 ENTRY_CRATES = ("board", "cct", "cct_c", "compare", "kept", "nearest", "records", "salvage", "text")
 
@@ -152,6 +153,36 @@ def contract_faults(function, is_entry):
     owner = function.name.partition("::")[0]
     for name, kind in function.parameters:
         yield from parameter_faults(name, owner if (name, kind) == ("self", "self") else kind, function.ensures, is_entry)
+
+
+# The ghost member by which an impl of a trait says what it gives; what is given stands last where it is an equation.
+GIVES = {"From": "from_gives", "TryFrom": "try_from_gives", "Source": "comes_to"}
+GIVEN = re.compile(r"λ «?\w+»? (?P<given>«?\w+»?)\. (?P=given) ≡ (?P<value>.+)")
+# The fields of a type whose impl lends slices, which are to be as they were.
+LENT_FIELDS = {"Samples": ("samples", "x_bar", "y_bar", "z_bar")}
+
+
+def impl_faults(impl):
+    """The faults of one impl of a trait that converts."""
+    gives = impl.ghosts.get(GIVES[impl.trait], "")
+    equation = GIVEN.fullmatch(gives)
+    if not gives or impl.trait != "Source" and (equation is None or mentions(equation["given"], equation["value"])):
+        yield "its `%s` is no equation" % GIVES[impl.trait]
+    for field in LENT_FIELDS.get(impl.type, ()):
+        said = "self.exit.%s.now ≡ self.entry.%s.now" % (field, field)
+        if not all(any(said in parts_of(promise) for promise in function.ensures) for function in impl.functions):
+            yield "no promise says that `%s` is unchanged" % field
+
+
+def faults_of_impls(found, traced):
+    """Every fault of the impls of each crate, given by the crate's name."""
+    for crate, listed in found.items():
+        for impl in (impl for impl in listed if impl.trait in GIVES):
+            for function in impl.functions:
+                name = "%s::%s" % (crate, function.name)
+                yield from ("%s: %s" % (name, fault) for fault in impl_faults(impl))
+                if name not in traced:
+                    yield "%s: docs/TRACE.md does not name it" % name
 
 
 class Rules(NamedTuple):
@@ -521,6 +552,48 @@ def self_test_of_operations():
     require_found(UNDIVIDED + "---" + OTHER, lambda text: list(banned_faults(crates(text), ["good::read"], DIVIDE, LEFT)), DIVISION_FAULTS)
 
 
+# Impls of traits that convert, and what is changed in them.
+CONVERTS = """
+impl From<Refusal> for u8 {
+    ghost from_gives = { λ r n. n ≡ number_of r };
+
+    fn from(refusal: Refusal) -> u8 {
+        1
+    }
+}
+
+impl TryFrom<u8> for Party {
+    ghost use Rattle.board.specs.Boards.{party_numbered};
+
+    ghost try_from_gives = { λ number party. party ≡ party_numbered number };
+
+    fn try_from(number: u8) -> Result<Party, Denied> {
+        Ok(Party::Ours)
+    }
+}
+
+impl<'a> Source for Samples<'a> {
+    ghost comes_to = { λ s. convert_samples s.samples.now };
+
+    fn convert(self) -> Converted
+        ensures converts { result ≡ convert_samples self.entry.samples.now }
+        ensures unchanged { (self.exit.samples.now ≡ self.entry.samples.now) × (self.exit.x_bar.now ≡ self.entry.x_bar.now) × (self.exit.y_bar.now ≡ self.entry.y_bar.now) × (self.exit.z_bar.now ≡ self.entry.z_bar.now) }
+    {
+        Ok(0)
+    }
+}
+"""
+CONVERTS_TRACED = {"good::u8::from", "good::Party::try_from", "good::Samples::convert"}
+CONVERTS_FAULTS = (
+    ("n ≡ number_of r", "n ≤ 255", "its `from_gives` is no equation"),
+    ("n ≡ number_of r", "n ≡ n", "its `from_gives` is no equation"),
+    ("party ≡ party_numbered number", "number ≡ 0 → party ≡ party_numbered number", "its `try_from_gives` is no equation"),
+    ("    ghost comes_to = { λ s. convert_samples s.samples.now };", "", "its `comes_to` is no equation"),
+    ("(self.exit.y_bar.now ≡ self.entry.y_bar.now)", "(self.exit.y_bar.now ≡ self.entry.z_bar.now)", "`y_bar` is unchanged"),
+    ("for u8", "for u16", "docs/TRACE.md does not name it"),
+)
+
+
 def check(text, entry=(), requires={}, promises={}, entry_requires={}):
     return faults_of({"good": functions(text)}, Rules(entry, requires, entry_requires, promises, TRACED))
 
@@ -528,6 +601,7 @@ def check(text, entry=(), requires={}, promises={}, entry_requires={}):
 def self_test():
     """Each fault is found where it is put in, none where it is not, and an exception holds only where it is needed."""
     self_test_of_operations()
+    require_found(CONVERTS, lambda text: list(faults_of_impls({"good": impls(text)}, CONVERTS_TRACED)), CONVERTS_FAULTS)
     for entry in ((), ("good",)):
         assert check(GOOD, entry) == [], check(GOOD, entry)
         for old, new, words in FAULTS + (ENTRY_FAULTS if entry else ()):
@@ -554,7 +628,7 @@ def self_test():
     try:
         functions(GOOD.replace("pub fn add", "pub unsafe fn add"))
     except ValueError:
-        print("check_contracts: the self-test found all %d faults" % (len(FAULTS + ENTRY_FAULTS + OPERATION_FAULTS + DIVISION_FAULTS) + 12))
+        print("check_contracts: the self-test found all %d faults" % (len(FAULTS + ENTRY_FAULTS + OPERATION_FAULTS + DIVISION_FAULTS + CONVERTS_FAULTS) + 12))
     else:
         sys.exit("check_contracts: a function that is not read goes unnoticed")
 
@@ -567,6 +641,8 @@ def main():
     crates = {crate: functions_of(crate) for crate in library_crates()}
     traced = named_functions(TRACE.read_text(encoding="utf-8"))
     found = faults_of(crates, Rules(ENTRY_CRATES, REQUIRES, ENTRY_REQUIRES, PROMISES, traced))
+    converting = {crate: [impl for impl in impls_of(crate) if impl.trait in GIVES] for crate in crates}
+    found += faults_of_impls(converting, traced)
     left = {name: others + CALLS_ONLY for name, (others, _) in WITHOUT_DIVISION.items()}
     found += [*banned_faults(crates, WITHOUT_MULTIPLY, MULTIPLY), *banned_faults(crates, WITHOUT_DIVISION, DIVIDE, left)]
     for line in found:
@@ -574,8 +650,9 @@ def main():
     if found:
         sys.exit("check_contracts: %d faults" % len(found))
     public = sum(function.public for listed in crates.values() for function in listed)
+    public += sum(len(impl.functions) for listed in converting.values() for impl in listed)
     counts = public, len(crates), len(REQUIRES) + len(ENTRY_REQUIRES) + len(PROMISES), len(WITHOUT_MULTIPLY), len(WITHOUT_DIVISION)
-    print("check_contracts: %d public functions of %d crates, %d exceptions; %d may not multiply, %d may not divide" % counts)
+    print("check_contracts: %d public functions and conversions of %d crates, %d exceptions; %d may not multiply, %d may not divide" % counts)
 
 
 if __name__ == "__main__":

@@ -115,6 +115,36 @@ def functions(text):
     return found
 
 
+class Impl(NamedTuple):
+    """A block that gives a trait to a type."""
+
+    trait: str
+    type: str
+    ghosts: dict  # what each ghost member is, by its name
+    functions: tuple
+
+
+GHOST = re.compile(r"^ +ghost +(?P<name>\w+) *= *\{", re.MULTILINE)
+
+
+def impls(text):
+    """Every impl of a trait in a source file."""
+    text = without_comments(text)
+    found = []
+    for match in IMPL.finditer(text):
+        if match["of"]:
+            body = match["body"]
+            ghosts = {g["name"]: " ".join(body[g.end():closing(body, g.end() - 1) - 1].split()) for g in GHOST.finditer(body)}
+            trait = re.match(r"[\w:]+", match["of"])[0].rpartition("::")[-1]
+            found.append(Impl(trait, match["type"], ghosts, tuple(functions(match[0]))))
+    return found
+
+
+def impls_of(crate):
+    """Every impl of a trait in a crate, of all its source files."""
+    return [i for path in sorted((ROOT / "crates" / crate / "src").rglob("*.rt")) for i in impls(path.read_text(encoding="utf-8"))]
+
+
 def library_crates():
     """The names of the crates that are libraries."""
     return sorted(path.parent.parent.name for path in (ROOT / "crates").glob("*/src/lib.rt"))
