@@ -12,8 +12,8 @@ end, or of what `&` lends as unchanged. Of each impl of From, TryFrom and Source
 below with its reason and must still be needed; a promise that is no equation, and a `requires` of an entry crate, must be, word for
 word, the one that stands here. Of the functions in WITHOUT_MULTIPLY, and of all that they call: no body has a `*`, a `/` or a `%`,
 and all that is called is of their own crate, by its plain name. Of those in WITHOUT_DIVISION: no body has a `/` or a `%`, in whatever
-crate of ours, and nothing else is called but the methods of CALLS_ONLY, and what stands beside the function as left to others. A
-function that is handed on by its path counts as called."""
+crate of ours, and nothing else is called but the methods of CALLS_ONLY, where none of ours has such a name, and what stands beside the
+function as left to others. A function that is handed on, by its path or by its plain name, counts as called."""
 
 import re
 import sys
@@ -71,10 +71,11 @@ WITHOUT_MULTIPLY = {"arith::integer_root": "it also runs where numbers of 64 bit
 WITHOUT_DIVISION = {
     "nearest::coarse_answer": ((".convert",), "a panel is not to divide for each point of the locus; how a reading is converted is its source's"),
     "nearest::coarse_with": ((".convert",), "as nearest::coarse_answer"),
+    "reading::Converted::convert": ((), "every coarse reading goes through it once more, as a source that is converted already"),
     "reading::Micro::convert": ((), "a panel that has whole numbers need not divide at all"),
 }
 
-# Methods of the toolchain's library that compare, or call what they are handed, and do nothing else with numbers.
+# Methods of the toolchain's library that compare, or call what they are handed, and do nothing else with numbers; one of ours is read.
 CALLS_ONLY = (".clamp", ".max", ".min", ".unwrap", ".unwrap_or_else")
 
 EQUATION = re.compile(r"^result ≡ (?P<value>.+)$")
@@ -244,6 +245,8 @@ MEANING = {
 # make a value and the others stand in control flow.
 CALL = re.compile(r"(?:(?<!\.)\. ?)?(?:\w+ ?:: ?)*\w+(?= ?\()|(?:\b\w+ ?:: ?)+[a-z_]\w*\b(?! ?(?:::|[(!]))")
 NO_CALLS = ("Err", "Ok", "Some", "break", "if", "in", "match", "return", "while")
+# A plain name that is an argument as it stands, which may be a function's.
+HANDED_ON = re.compile(r"(?<=[(,]) ?([a-z_]\w*) ?(?=,|\)(?! ?\())")
 # What could call a function without its name before a bracket: f::<>(..), (f)(..), [f][0](..), {f}(..) and f!(..).
 NOT_PLAIN = r"::(?= ?<)|[)\]}](?= ?\()|(?<=\w)!(?= ?\()"
 # A case of an enum, which calls nothing.
@@ -254,6 +257,11 @@ def calls(body):
     """What a body calls: a function of the crate by its name, a method with a point before it, any other by its path."""
     found = (call.replace(" ", "").removeprefix("crate::") for call in CALL.findall(body))
     return [call for call in found if call not in NO_CALLS]
+
+
+def handed_on(body, names):
+    """The functions, of those with these names, that a body hands on by their plain names; a value of such a name counts as one too."""
+    return [name for name in HANDED_ON.findall(body) if name in names]
 
 
 class Ban(NamedTuple):
@@ -279,6 +287,15 @@ def places_of(crates, crate, call, ban):
     return [(owner, call) for owner in owners] or [(crate, call)]
 
 
+def called_by(crates, owner, bodies, ban, left):
+    """Where the functions are that the bodies of one in a crate may come to, but for those that are left to others."""
+    names = {function.name for function in crates.get(owner, ())}
+    for body in bodies:
+        for call in (call for call in calls(body) + handed_on(body, names) if call not in left):
+            places = places_of(crates, owner, call, ban)
+            yield from () if not ban.within and call in CALLS_ONLY and places == [(owner, call)] else places
+
+
 def operation_faults(crates, crate, start, ban, left=()):
     """Where a function, or what it calls but for what is left to others, does what it may not, or calls what is not there, given the
     functions of the crates."""
@@ -289,8 +306,7 @@ def operation_faults(crates, crate, start, ban, left=()):
             yield "it comes to `%s`, which is no function of %s" % (name, "its crate" if ban.within else "ours")
         for sign in sorted(set(ban.signs.findall(" ".join(bodies)))):
             yield "it may not %s, or call otherwise than by a name, and `%s` has a `%s`" % (ban.words, name, sign)
-        found = (place for body in bodies for call in calls(body) if call not in left for place in places_of(crates, owner, call, ban))
-        places += dict.fromkeys(place for place in found if place not in places)
+        places += dict.fromkeys(place for place in called_by(crates, owner, bodies, ban, left) if place not in places)
 
 
 def banned_faults(crates, names, ban, left={}):
@@ -477,7 +493,11 @@ pub fn read(u: u32, v: u32) -> Coarse {
         Admission::Near(m, d) => accepted(Admission::Near(m, d)),
         Admission::Refused(refusal) => refusal.number(),
     }
-    .or(source.convert()).map(Coarse::made)
+    .or(source.convert()).map(Coarse::made).unwrap_or_else(refused).max(u)
+}
+
+fn refused(refusal: Refusal) -> Coarse {
+    7
 }
 
 impl Coarse {
@@ -523,6 +543,9 @@ DIVISION_FAULTS = (
     ("(n + 3)", "(n / 3)", "`Coarse::made` has a `/`"),
     ("        6\n", "        12 / 2\n", "`u8::from` has a `/`"),
     ("Coarse::made)", "Coarse::unmade)", "comes to `Coarse::unmade`"),
+    ("    7\n", "    14 / 2\n", "`refused` has a `/`"),
+    ("fn made(n: u32)", "fn max(self, n: u32) -> u32 {\n        n / 2\n    }\n\n    fn made(n: u32)", "`Coarse::max` has a `/`"),
+    (".max(u)", ".most(u)", "comes to `.most`"),
     ("u * 2", "u / 2", "`read` has a `/`"),
     ("    4\n", "    8 % 5\n", "`accepted` has a `%`"),
     ("u * u", "u / u", "`squared` has a `/`"),
@@ -643,7 +666,7 @@ def main():
     found = faults_of(crates, Rules(ENTRY_CRATES, REQUIRES, ENTRY_REQUIRES, PROMISES, traced))
     converting = {crate: [impl for impl in impls_of(crate) if impl.trait in GIVES] for crate in crates}
     found += faults_of_impls(converting, traced)
-    left = {name: others + CALLS_ONLY for name, (others, _) in WITHOUT_DIVISION.items()}
+    left = {name: others for name, (others, _) in WITHOUT_DIVISION.items()}
     found += [*banned_faults(crates, WITHOUT_MULTIPLY, MULTIPLY), *banned_faults(crates, WITHOUT_DIVISION, DIVIDE, left)]
     for line in found:
         print("check_contracts: " + line, file=sys.stderr)
