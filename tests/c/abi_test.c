@@ -161,6 +161,7 @@ static void not_finite(void) {
     const uint32_t *edges = lend(EDGES, GOOD_EDGES, GOOD_COUNT).numbers;
     for (size_t i = 0; i < NOT_FINITE_COUNT; i++) {
         float bad = float_of(NOT_FINITE[i]);
+        feclearexcept(FE_INVALID);
         expect_refused(ck_read_uv(bad, 0.35f, edges, GOOD_COUNT, 14), CK_NOT_FINITE, "uv, u not finite");
         expect_refused(ck_read_uv(2.0f, bad, edges, GOOD_COUNT, 14), CK_NOT_FINITE, "uv, v not finite");
         expect_refused(ck_read_uvp(bad, 0.5f, edges, GOOD_COUNT, 14), CK_NOT_FINITE, "uvp, u' not finite");
@@ -171,6 +172,7 @@ static void not_finite(void) {
         expect_refused(ck_read_xyz(5000.f, bad, 100.f, edges, GOOD_COUNT, 14), CK_NOT_FINITE, "xyz, Y not finite");
         expect_refused(ck_read_xyz(100.f, 0.f, bad, edges, GOOD_COUNT, 14), CK_NOT_FINITE, "xyz, Z not finite");
         expect_refused(ck_read_uv(bad, bad, edges, 1, 14), CK_BAD_EDGES, "uv, bad edges before not finite");
+        if (infinity_is_invalid(NOT_FINITE[i])) fail("an invalid operation", "an infinite float");
     }
 }
 

@@ -127,6 +127,7 @@ static void by_hand(void) {
 static void not_finite(void) {
     for (size_t i = 0; i < NOT_FINITE_COUNT; i++) {
         float bad = float_of(NOT_FINITE[i]);
+        feclearexcept(FE_INVALID);
         expect(ck_coarse_uv(bad, 0.35f), CK_NOT_FINITE, 0, "uv, u not finite");
         expect(ck_coarse_uv(2.0f, bad), CK_NOT_FINITE, 0, "uv, v not finite");
         expect(ck_coarse_uvp(bad, 0.5f), CK_NOT_FINITE, 0, "uvp, u' not finite");
@@ -136,6 +137,7 @@ static void not_finite(void) {
         expect(ck_coarse_xyz(bad, 100.f, 100.f), CK_NOT_FINITE, 0, "xyz, X not finite");
         expect(ck_coarse_xyz(5000.f, bad, 100.f), CK_NOT_FINITE, 0, "xyz, Y not finite");
         expect(ck_coarse_xyz(100.f, 0.f, bad), CK_NOT_FINITE, 0, "xyz, Z not finite");
+        if (infinity_is_invalid(NOT_FINITE[i])) fail("an invalid operation", "an infinite float");
     }
 }
 

@@ -6,6 +6,8 @@
 #include "guarded.h"
 #include "lines.h"
 
+#include <fenv.h>
+
 static const uint32_t GOOD_EDGES[] = {1600, 2500, 3500, 5000, 20001};
 enum { GOOD_COUNT = sizeof GOOD_EDGES / sizeof *GOOD_EDGES };
 
@@ -13,6 +15,10 @@ enum { GOOD_COUNT = sizeof GOOD_EDGES / sizeof *GOOD_EDGES };
 static const uint32_t NOT_FINITE[] = {0x7f800001, 0x7f812345, 0x7fbfffff, 0x7fc00000, 0x7fc0beef, 0x7fffffff,
                                       0xff800001, 0xffbfffff, 0xffc00000, 0xffffffff, 0x7f800000, 0xff800000};
 enum { NOT_FINITE_COUNT = sizeof NOT_FINITE / sizeof *NOT_FINITE };
+
+/* Whether an infinite float, the last that a function was given, has raised the flag of an invalid operation, which ends a program that has
+ * asked for a signal then. */
+static int infinity_is_invalid(uint32_t bits) { return (bits & 0x7fffffff) == 0x7f800000 && fetestexcept(FE_INVALID); }
 
 static float float_of(uint32_t bits) {
     float value;

@@ -1,5 +1,5 @@
 -- The code's comparisons of floats are the definition's tests: by cases of the float, then a law over plain numbers.
-use Rattle.std.proofs.Common.{◌≡◌, List, [], ◌∷◌, ℕ, ◌+◌, ◌*◌, ◌<◌, true, false, ltb, pos, sym, refl, ap, ◌∙◌, true≢false, mul-pos, one-mul, zero-mul, mul-one, mul_right_comm, mul_left_comm, arith, ltb-false, ltb-true, lt-ltb}
+use Rattle.std.proofs.Common.{◌≡◌, List, [], ◌∷◌, ℕ, ◌+◌, ◌*◌, ◌<◌, ◌&&◌, true, false, ltb, pos, sym, refl, ap, ◌∙◌, true≢false, mul-pos, one-mul, zero-mul, mul-one, mul_right_comm, mul_left_comm, arith, ltb-false, ltb-true, lt-ltb}
 use mathlib.Core.Bool.{false≢true}
 use Rattle.std.specs.List.{list_all}
 use Rattle.std.specs.Float.{float_is_finite}
@@ -18,6 +18,13 @@ unfolding float_is_finite
 is_finite_same nan = refl
 is_finite_same (inf s) = refl
 is_finite_same (fin s m e) = refl
+
+pub compared_same : (x : Float) → lt (inf true) x && lt x (inf false) ≡ float_is_finite x
+unfolding lt float_is_finite
+compared_same nan = refl
+compared_same (inf true) = refl
+compared_same (inf false) = refl
+compared_same (fin s m e) = refl
 
 pub all_finite_same : (l : List Float) → list_all float_is_finite l ≡ list_all finite l
 all_finite_same [] = refl
