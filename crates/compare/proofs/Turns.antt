@@ -7,6 +7,7 @@ use Rattle.std.proofs.lemmas.List.Sums.{sum_by-cons}
 use Rattle.arith.specs.Same.{same}
 use Rattle.records.specs.declared.fields.Record.{Record}
 use Rattle.compare.specs.Differences.{Entry, entry, contents, in_step, of_field, of_record, extra}
+use Rattle.compare.specs.EntryLaws.{field_length}
 use Rattle.compare.specs.InStepLaws.{in_step_last}
 use Rattle.compare.specs.Code.Puts.{Put}
 use Rattle.compare.proofs.Stores.{put_then}
@@ -39,7 +40,7 @@ pub turn_put : {A : Type 0} (f : ℕ → A → A → List Entry) (xs ys : List A
     Put old mid at middle (in_step f 0 (take k xs) (take k ys)) → Put mid new middle end (f k (get_or xs k d) (get_or ys k d)) → Put old new at end (in_step f 0 (take (k + 1) xs) (take (k + 1) ys))
 turn_put f xs ys d k h g p q = rw (turn f xs ys d k h g) (put_then p q)
 
-abbrev differ : ℤ × ℤ → Bool
+abbrev pub differ : ℤ × ℤ → Bool
 differ p = not (same p.0 p.1)
 
 -- as many entries as there are places at which the contents differ, whatever the record's number
@@ -55,6 +56,14 @@ as_many i k (x ∷ xs) (y ∷ ys) = sum_by-cons (λ (p : ℤ × ℤ). cond (diff
 pub record_count : (i : ℕ) (r s : Record) → count_by (λ (p : ℤ × ℤ). not (same p.0 p.1)) (zip (contents r) (contents s)) ≡ length (of_record i r s)
 unfolding of_record
 record_count i r s = as_many i 0 (contents r) (contents s)
+
+-- one place more at which they may differ
+pub count_next : (xs ys : List ℤ) (d : ℤ) (k : ℕ) → k < length xs → k < length ys →
+    count_by differ (zip (take (k + 1) xs) (take (k + 1) ys)) ≡ count_by differ (zip (take k xs) (take k ys)) + cond (same (get_or xs k d) (get_or ys k d)) 0 1
+count_next xs ys d k h g =
+    as_many 0 0 (take (k + 1) xs) (take (k + 1) ys) ∙ turn_length (of_field 0) xs ys d k h g ∙
+    ap (λ (n : ℕ). n + length (of_field 0 k (get_or xs k d) (get_or ys k d))) (sym (as_many 0 0 (take k xs) (take k ys))) ∙
+    ap (λ (n : ℕ). count_by differ (zip (take k xs) (take k ys)) + n) (field_length 0 k (get_or xs k d) (get_or ys k d))
 
 -- so it does not turn on that number
 pub record_as_long : (i j : ℕ) (r s : Record) → length (of_record i r s) ≡ length (of_record j r s)

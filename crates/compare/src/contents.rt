@@ -25,11 +25,17 @@ pub(crate) fn contents_of(r: Record) -> [i64; FIELDS]
     ]
 }
 
-// At how many places two lists of numbers differ.
-fn places_differing(first: &[i64], second: &[i64]) -> usize
+// At how many places the contents of two records differ. The places go by number, since the two lists zipped and filtered take twice the time.
+fn places_differing(first: &[i64; FIELDS], second: &[i64; FIELDS]) -> usize
     ensures { result ≡ count_by (λ (p : ℤ × ℤ). not (same p.0 p.1)) (zip first.now second.now) }
 {
-    first.iter().zip(second).filter(|(x, y)| **x != **y).count()
+    let mut count = 0;
+    for k in 0..FIELDS {
+        if first[k] != second[k] {
+            count += 1;
+        }
+    }
+    count
 }
 
 // How many fields of two records differ.
