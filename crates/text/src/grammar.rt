@@ -116,8 +116,11 @@ impl Scan {
     pub(crate) fn byte(self, x: u8) -> Self
         ensures { result ≡ scan_byte self x }
     {
+        let Some(numbers) = self.numbers else {
+            return self;
+        };
         Self {
-            numbers: self.numbers.and_then(|n| n.byte(x)),
+            numbers: numbers.byte(x),
         }
     }
 

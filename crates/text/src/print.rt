@@ -57,11 +57,15 @@ impl<'a> Output<'a> {
         self.end = end;
     }
 
-    // n in decimal.
+    // n in decimal. A number of one digit, as a refusal, the steps and a class are, does not go by the library, which takes three times as long.
+    #[tactic(auto, using(crate::proofs::Decimal::one_digit))]
     fn number(&mut self, n: u32)
         requires { Room self.old 10 }
         ensures { Put self.old self.new (decimal n) }
     {
+        if n < 10 {
+            return self.byte(DIGIT_ZERO + n as u8);
+        }
         self.text(Buffer::new().format(n).as_bytes());
     }
 
