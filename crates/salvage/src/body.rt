@@ -13,6 +13,7 @@ use records::Record;
 use refusal::Refusal;
 
 // Whether so many records kept and so many dropped have room.
+#[tactic(auto, using(std::proofs::lemmas::Bool::Decides::nat_tests), unfolding(crate::specs::Code::Sorting::room_for, records::specs::Transfer::write_outcome))]
 fn check_counts(
     kept: usize,
     dropped: usize,

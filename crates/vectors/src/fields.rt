@@ -44,7 +44,9 @@ pub(crate) fn name(word: &[u8]) -> &[u8] {
 }
 
 // What a digit of base 16 or less stands for; any other byte counts as 0.
-fn digit(byte: u8) -> u8 {
+fn digit(byte: u8) -> u8
+    ensures { result < 16 }
+{
     match byte {
         b'0'..=b'9' => byte - b'0',
         b'a'..=b'f' => byte - b'a' + 10,
