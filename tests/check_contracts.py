@@ -13,7 +13,8 @@ below with its reason and must still be needed; a promise that is no equation, a
 word, the one that stands here. Of the functions in WITHOUT_MULTIPLY, and of all that they call: no body has a `*`, a `/` or a `%`,
 and all that is called is of their own crate, by its plain name. Of those in WITHOUT_DIVISION: no body has a `/` or a `%`, in whatever
 crate of ours, and nothing else is called but the methods of CALLS_ONLY, where none of ours has such a name, and what stands beside the
-function as left to others. A function that is handed on, by its path or by its plain name, counts as called."""
+function as left to others. A function that is handed on, by its path or by its plain name, counts as called, and so does any value that has
+the name of a function."""
 
 import re
 import sys
@@ -75,7 +76,8 @@ WITHOUT_DIVISION = {
     "reading::Micro::convert": ((), "a panel that has whole numbers need not divide at all"),
 }
 
-# Methods of the toolchain's library that compare, or call what they are handed, and do nothing else with numbers; one of ours is read.
+# Methods of the toolchain's library that compare, or call what they are handed, and do nothing else with numbers. Where a type of ours has
+# a method of such a name, that is read too.
 CALLS_ONLY = (".clamp", ".max", ".min", ".unwrap", ".unwrap_or_else")
 
 EQUATION = re.compile(r"^result ≡ (?P<value>.+)$")
@@ -245,8 +247,8 @@ MEANING = {
 # make a value and the others stand in control flow.
 CALL = re.compile(r"(?:(?<!\.)\. ?)?(?:\w+ ?:: ?)*\w+(?= ?\()|(?:\b\w+ ?:: ?)+[a-z_]\w*\b(?! ?(?:::|[(!]))")
 NO_CALLS = ("Err", "Ok", "Some", "break", "if", "in", "match", "return", "while")
-# A plain name that is an argument as it stands, which may be a function's.
-HANDED_ON = re.compile(r"(?<=[(,]) ?([a-z_]\w*) ?(?=,|\)(?! ?\())")
+# A plain name that is not called where it stands, which may be a function's that is handed on.
+NOT_CALLED = re.compile(r"(?<![.:\w])[a-z_]\w*\b(?! ?[(!:])")
 # What could call a function without its name before a bracket: f::<>(..), (f)(..), [f][0](..), {f}(..) and f!(..).
 NOT_PLAIN = r"::(?= ?<)|[)\]}](?= ?\()|(?<=\w)!(?= ?\()"
 # A case of an enum, which calls nothing.
@@ -259,9 +261,11 @@ def calls(body):
     return [call for call in found if call not in NO_CALLS]
 
 
-def handed_on(body, names):
-    """The functions, of those with these names, that a body hands on by their plain names; a value of such a name counts as one too."""
-    return [name for name in HANDED_ON.findall(body) if name in names]
+def handed_on(body, crates, owner):
+    """Where the functions are that a body in a crate may hand on by their plain names, in that crate or, where it has none, in any."""
+    for name in NOT_CALLED.findall(body):
+        places = [(crate, name) for crate in crates if any(function.name == name for function in crates[crate])]
+        yield from [place for place in places if place[0] == owner] or places
 
 
 class Ban(NamedTuple):
@@ -289,11 +293,11 @@ def places_of(crates, crate, call, ban):
 
 def called_by(crates, owner, bodies, ban, left):
     """Where the functions are that the bodies of one in a crate may come to, but for those that are left to others."""
-    names = {function.name for function in crates.get(owner, ())}
     for body in bodies:
-        for call in (call for call in calls(body) + handed_on(body, names) if call not in left):
+        for call in (call for call in calls(body) if call not in left):
             places = places_of(crates, owner, call, ban)
             yield from () if not ban.within and call in CALLS_ONLY and places == [(owner, call)] else places
+        yield from handed_on(body, {owner: crates.get(owner, ())} if ban.within else crates, owner)
 
 
 def operation_faults(crates, crate, start, ban, left=()):
@@ -472,9 +476,9 @@ OPERATION_FAULTS = (
     ("= 0u64;", "= 0u64; found %= n;", "`root` has a `%`"),
     ("crate::less(left, found)", "squared(left)", "`squared` has a `*`"),
     ("left - growth", "left - squared (growth)", "`squared` has a `*`"),
-    ("crate::less(left, found)", "(squared)(left)", "`root` has a `)`"),
-    ("crate::less(left, found)", "squared::<>(left)", "`root` has a `::`"),
-    ("crate::less(left, found)", "[squared][0](left)", "`root` has a `]`"),
+    ("crate::less(left, found)", "(less)(left, found)", "`root` has a `)`"),
+    ("crate::less(left, found)", "less::<>(left, found)", "`root` has a `::`"),
+    ("crate::less(left, found)", "[less][0](left, found)", "`root` has a `]`"),
     ("{ 16 }", "{ if n == b'}' { 1 } else { n / 2 } }", "`rounds` has a `/`"),
     ("= 0u64;", "= 0u64; let text = b\"//\"; found *= n;", "`root` has a `*`"),
     ("0..rounds(n)", "0..u64::leading_zeros(n)", "comes to `u64::leading_zeros`"),
@@ -498,6 +502,10 @@ pub fn read(u: u32, v: u32) -> Coarse {
 
 fn refused(refusal: Refusal) -> Coarse {
     7
+}
+
+fn half(refusal: Refusal) -> Coarse {
+    7 / 2
 }
 
 impl Coarse {
@@ -525,6 +533,10 @@ fn squared(u: u32) -> u64 {
     u * u
 }
 
+pub fn third(refusal: Refusal) -> Coarse {
+    7 / 3
+}
+
 impl Refusal {
     pub fn number(self) -> u8 {
         5
@@ -544,6 +556,10 @@ DIVISION_FAULTS = (
     ("        6\n", "        12 / 2\n", "`u8::from` has a `/`"),
     ("Coarse::made)", "Coarse::unmade)", "comes to `Coarse::unmade`"),
     ("    7\n", "    14 / 2\n", "`refused` has a `/`"),
+    ("unwrap_or_else(refused)", "unwrap_or_else({ let f = half; f })", "`half` has a `/`"),
+    ("unwrap_or_else(refused)", "unwrap_or_else(&half)", "`half` has a `/`"),
+    ("unwrap_or_else(refused)", "unwrap_or_else(if u == v { refused } else { half })", "`half` has a `/`"),
+    ("unwrap_or_else(refused)", "unwrap_or_else(third)", "`third` has a `/`"),
     ("fn made(n: u32)", "fn max(self, n: u32) -> u32 {\n        n / 2\n    }\n\n    fn made(n: u32)", "`Coarse::max` has a `/`"),
     (".max(u)", ".most(u)", "comes to `.most`"),
     ("u * 2", "u / 2", "`read` has a `/`"),

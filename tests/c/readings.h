@@ -16,8 +16,8 @@ static const uint32_t NOT_FINITE[] = {0x7f800001, 0x7f812345, 0x7fbfffff, 0x7fc0
                                       0xff800001, 0xffbfffff, 0xffc00000, 0xffffffff, 0x7f800000, 0xff800000};
 enum { NOT_FINITE_COUNT = sizeof NOT_FINITE / sizeof *NOT_FINITE };
 
-/* Whether an infinite float, the last that a function was given, has raised the flag of an invalid operation, which ends a program that has
- * asked for a signal then. */
+/* Whether the flag of an invalid operation is set after calls on a float with these bits, which is infinite; a program that has asked for a
+ * signal would have ended. Of a NaN nothing is said. */
 static int infinity_is_invalid(uint32_t bits) { return (bits & 0x7fffffff) == 0x7f800000 && fetestexcept(FE_INVALID); }
 
 static float float_of(uint32_t bits) {
