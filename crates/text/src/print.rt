@@ -57,7 +57,7 @@ impl<'a> Output<'a> {
         self.end = end;
     }
 
-    // n in decimal. A number of one digit, as a refusal, the steps and a class are, does not go by the library, which takes three times as long.
+    // n in decimal. A number of one digit, as a refusal and a class are, is put without the library, which takes longer for it.
     #[tactic(auto, using(crate::proofs::Decimal::one_digit))]
     fn number(&mut self, n: u32)
         requires { Room self.old 10 }
